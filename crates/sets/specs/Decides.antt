@@ -1,0 +1,75 @@
+-- Tests and the questions that they decide. Assumes nothing.
+use Prim.Native.Nat.{ℕ}
+use mathlib.Core.Path.{_≡_, refl, sym, _∙_}
+use mathlib.Core.Bool.{Bool, true, false, not, _&&_, _||_, true≢false}
+use mathlib.Core.Logic.{_↔_, _⊎_, inl, inr, ⊎-elim}
+use lib.Dec.{eqb}
+use borrow.Author.Tests.{eqb-true, eqb-false}
+
+-- b is the answer to the question P.
+pub record Decides (P : Type 0) (b : Bool) : Type 0 where
+  pub yes : b ≡ true → P
+  pub no : b ≡ false → P → ⊥
+
+pub dec-true : {P : Type 0} → P → Decides P true
+dec-true p = record { yes = λ _. p; no = λ e. absurd (true≢false e) }
+
+pub dec-false : {P : Type 0} → (P → ⊥) → Decides P false
+dec-false n = record { yes = λ e. absurd (true≢false (sym e)); no = λ _. n }
+
+-- ---- what an answer gives
+module _ {P : Type 0} where
+  pub is-true : {b : Bool} → Decides P b → P → b ≡ true
+  is-true {b = true} d p = refl
+  is-true {b = false} d p = absurd (d .no refl p)
+
+  pub is-false : {b : Bool} → Decides P b → (P → ⊥) → b ≡ false
+  is-false {b = true} d n = absurd (n (d .yes refl))
+  is-false {b = false} d n = refl
+
+  pub decided : {b : Bool} → Decides P b → P ⊎ (P → ⊥)
+  decided {b = true} d = inl (d .yes refl)
+  decided {b = false} d = inr (d .no refl)
+
+  -- two answers to one question are the same
+  pub dec-one : {a b : Bool} → Decides P a → Decides P b → a ≡ b
+  dec-one {a = true} d e = sym (is-true e (d .yes refl))
+  dec-one {a = false} d e = sym (is-false e (d .no refl))
+
+-- ---- answers put together
+pub dec-iff : {P Q : Type 0} {b : Bool} → P ↔ Q → Decides P b → Decides Q b
+dec-iff f d = record { yes = λ e. f .0 (d .yes e); no = λ e q. d .no e (f .1 q) }
+
+pub dec-not : {P : Type 0} {b : Bool} → Decides P b → Decides (P → ⊥) (not b)
+dec-not {b = true} d = dec-false (λ n. n (d .yes refl))
+dec-not {b = false} d = dec-true (d .no refl)
+
+pub dec-and : {P Q : Type 0} {a b : Bool} → Decides P a → Decides Q b → Decides (P × Q) (a && b)
+dec-and {a = true} d e = dec-iff (λ q. (d .yes refl, q), λ p. p .1) e
+dec-and {a = false} d e = dec-false (λ p. d .no refl (p .0))
+
+pub dec-or : {P Q : Type 0} {a b : Bool} → Decides P a → Decides Q b → Decides (P ⊎ Q) (a || b)
+dec-or {a = true} d e = dec-true (inl (d .yes refl))
+dec-or {a = false} d e = dec-iff (inr, ⊎-elim (λ p. absurd (d .no refl p)) (λ q. q)) e
+
+pub dec-imp : {P Q : Type 0} {a b : Bool} → Decides P a → Decides Q b → Decides (P → Q) (not a || b)
+dec-imp {a = true} d e = dec-iff (λ q _. q, λ f. f (d .yes refl)) e
+dec-imp {a = false} d e = dec-true (λ p. absurd (d .no refl p))
+
+-- ---- first answers
+-- a test is its own question
+pub dec-self : (b : Bool) → Decides (b ≡ true) b
+dec-self true = dec-true refl
+dec-self false = dec-false (λ e. true≢false (sym e))
+
+pub dec-eq : (a b : ℕ) → Decides (a ≡ b) (eqb a b)
+dec-eq a b = record { yes = eqb-true a b; no = eqb-false a b }
+
+-- the answer of a decision
+abbrev pub does : {P : Type 0} → Dec P → Bool
+does (yes p) = true
+does (no n) = false
+
+pub dec-does : {P : Type 0} (d : Dec P) → Decides P (does d)
+dec-does (yes p) = dec-true p
+dec-does (no n) = dec-false n

@@ -1,0 +1,225 @@
+-- Lists as collections: membership, tests over the members, the members that pass a test, the numbers below n. Assumes nothing.
+use Prim.Native.Nat.{ℕ, zero, suc, _+_, _≤_, _<_, zero-le, suc-le-suc}
+use mathlib.Core.Path.{_≡_, refl, sym, ap, _∙_, subst}
+use mathlib.Core.Bool.{Bool, true, false, not, _&&_, _||_, cond, true≢false, and-assoc, or-assoc}
+use mathlib.Core.List.{List, [], _∷_, _++_, append-nil, append-assoc, map, List·Memᴰ, List·Memᴰ·head, List·Memᴰ·tail, List·Memᴰ·not-nil, List·Memᴰ·cases-cons, List·Memᴰ·append-cases, List·Memᴰ·eq-of-singleton, Memᴰ·append-left, Memᴰ·append-right}
+use mathlib.Core.Logic.{_↔_, _⊎_, inl, inr, ⊎-elim}
+use native.Mathlib.Omega.{arith}
+use native.Mathlib.Nat.{le-antisymm, eq-or-lt-of-le, le-of-suc-le-suc, not-suc-le-zero}
+use lib.ListN.{length, length-append}
+use Rattle.sets.specs.Decides.{Decides, dec-true, dec-false, dec-iff, dec-and, dec-or}
+
+infix 45 _among_
+
+-- x stands in the list l
+abbrev pub _among_ : {A : Type 0} → A → List A → Type 0
+x among l = List·Memᴰ x l
+
+module _ {A : Type 0} where
+  -- f holds of every member
+  unfoldable pub every : (A → Bool) → List A → Bool
+  every f [] = true
+  every f (x ∷ l) = f x && every f l
+
+  -- f holds of some member
+  unfoldable pub some : (A → Bool) → List A → Bool
+  some f [] = false
+  some f (x ∷ l) = f x || some f l
+
+  -- the members of which f holds, in their order
+  unfoldable pub keep : (A → Bool) → List A → List A
+  keep f [] = []
+  keep f (x ∷ l) = cond (f x) (x ∷ keep f l) (keep f l)
+
+  -- x alone where b is true, and nothing else
+  abbrev pub only : Bool → A → List A
+  only b x = cond b (x ∷ []) []
+
+-- the lists that f gives for the members, end to end
+unfoldable pub flat : {A B : Type 0} → (A → List B) → List A → List B
+flat f [] = []
+flat f (x ∷ l) = f x ++ flat f l
+
+-- the numbers below n, rising and falling
+unfoldable pub upTo : ℕ → List ℕ
+upTo zero = []
+upTo (suc n) = upTo n ++ n ∷ []
+
+unfoldable pub downFrom : ℕ → List ℕ
+downFrom zero = []
+downFrom (suc n) = n ∷ downFrom n
+
+-- R holds of each member and every later one
+abbrev pub Pairwise : {A : Type 0} → (A → A → Type 0) → List A → Type 0
+Pairwise R [] = Unit {0}
+Pairwise R (x ∷ l) = ((y : _) → y among l → R x y) × Pairwise R l
+
+-- no member stands twice
+abbrev pub Distinct : {A : Type 0} → List A → Type 0
+Distinct l = Pairwise (λ x y. x ≡ y → ⊥) l
+
+-- ---- membership
+module _ {A : Type 0} where
+  pub here : {x : A} {l : List A} → x among (x ∷ l)
+  here = List·Memᴰ·head refl
+
+  pub later : {x y : A} {l : List A} → x among l → x among (y ∷ l)
+  later m = List·Memᴰ·tail m
+
+  pub nowhere : {x : A} → x among [] → ⊥
+  nowhere m = List·Memᴰ·not-nil m
+
+  pub first-or-later : {x y : A} {l : List A} → x among (y ∷ l) → (x ≡ y) ⊎ (x among l)
+  first-or-later m = List·Memᴰ·cases-cons m
+
+  pub among-append : {x : A} (l : List A) {m : List A} → x among (l ++ m) ↔ ((x among l) ⊎ (x among m))
+  among-append l {m} = (List·Memᴰ·append-cases l, ⊎-elim (Memᴰ·append-left m) (Memᴰ·append-right l))
+
+  pub among-only : (b : Bool) {x y : A} → x among only b y ↔ ((b ≡ true) × (x ≡ y))
+  among-only true = (λ m. (refl, List·Memᴰ·eq-of-singleton m), λ p. List·Memᴰ·head (p .1))
+  among-only false {x} {y} = ((λ m. absurd (nowhere m)), λ p. absurd (true≢false (sym (p .0))))
+
+  module _ (f : A → Bool) where
+    pub keep-cons : (x : A) (l : List A) → keep f (x ∷ l) ≡ only (f x) x ++ keep f l
+    unfolding keep
+    keep-cons x l = go (f x)
+      where
+        go : (b : Bool) → cond b (x ∷ keep f l) (keep f l) ≡ only b x ++ keep f l
+        go true = refl
+        go false = refl
+
+    pub among-keep : {x : A} (l : List A) → x among keep f l ↔ ((x among l) × (f x ≡ true))
+    unfolding keep
+    among-keep [] = ((λ m. absurd (nowhere m)), λ p. absurd (nowhere (p .0)))
+    among-keep (y ∷ l) =
+        let ih = among-keep l in
+        rw keep-cons (
+          λ m. ⊎-elim (λ q. let (b, e) = among-only (f y) .0 q in (List·Memᴰ·head e, ap f e ∙ b))
+              (λ q. let (k, b) = ih .0 q in (later k, b)) (among-append (only (f y) y) .0 m),
+          λ p. among-append (only (f y) y) .1
+              (⊎-elim (λ e. inl (among-only (f y) .1 (ap f (sym e) ∙ p .1, e))) (λ m. inr (ih .1 (m, p .1))) (first-or-later (p .0))),
+        )
+
+    pub keep-append : (l m : List A) → keep f (l ++ m) ≡ keep f l ++ keep f m
+    unfolding keep
+    keep-append [] m = refl
+    keep-append (x ∷ l) m = keep-cons x (l ++ m) ∙ rw (keep-append l m, keep-cons x l, append-assoc)
+
+    pub keep-snoc : (l : List A) (x : A) → keep f (l ++ x ∷ []) ≡ keep f l ++ only (f x) x
+    unfolding keep
+    keep-snoc l x = keep-append l (x ∷ []) ∙ rw keep-cons (rw append-nil)
+
+    -- ---- the tests decide "for every member" and "for some member"
+    pub dec-every : (P : A → Type 0) → ((x : A) → Decides (P x) (f x)) → (l : List A) → Decides ((x : A) → x among l → P x) (every f l)
+    unfolding every
+    dec-every P d [] = dec-true (λ x m. absurd (nowhere m))
+    dec-every P d (y ∷ l) =
+        dec-iff (
+          λ p x m. ⊎-elim (λ e. subst P (sym e) (p .0)) (p .1 x) (first-or-later m),
+          λ p. (p y here, λ x m. p x (later m)),
+        ) (dec-and (d y) (dec-every P d l))
+
+    pub dec-some : (P : A → Type 0) → ((x : A) → Decides (P x) (f x)) → (l : List A) → Decides ((x : A) × (x among l) × P x) (some f l)
+    unfolding some
+    dec-some P d [] = dec-false (λ p. nowhere (p .1))
+    dec-some P d (y ∷ l) =
+        dec-iff (
+          ⊎-elim (λ p. (y, here, p)) (λ q. (q .0, later (q .1), q .2)),
+          λ q. ⊎-elim (λ e. inl (subst P e (q .2))) (λ m. inr (q .0, m, q .2)) (first-or-later (q .1)),
+        ) (dec-or (d y) (dec-some P d l))
+
+pub among-map : {A B : Type 0} (f : A → B) {y : B} (l : List A) → y among map f l ↔ ((x : A) × (x among l) × (y ≡ f x))
+among-map f [] = ((λ m. absurd (nowhere m)), λ p. absurd (nowhere (p .1)))
+among-map f (x ∷ l) =
+    let ih = among-map f l in (
+      λ m. ⊎-elim (λ e. (x, here, e)) (λ q. let (z, k, e) = ih .0 q in (z, later k, e)) (first-or-later m),
+      λ p. ⊎-elim (λ e. List·Memᴰ·head (p .2 ∙ ap f e)) (λ k. later (ih .1 (p .0, k, p .2))) (first-or-later (p .1)),
+    )
+
+pub among-flat : {A B : Type 0} (f : A → List B) {y : B} (l : List A) → y among flat f l ↔ ((x : A) × (x among l) × (y among f x))
+unfolding flat
+among-flat f [] = ((λ m. absurd (nowhere m)), λ p. absurd (nowhere (p .1)))
+among-flat f {y} (x ∷ l) =
+    let ih = among-flat f l in (
+      λ m. ⊎-elim (λ k. (x, here, k)) (λ q. let (z, k, e) = ih .0 q in (z, later k, e)) (among-append (f x) .0 m),
+      λ p. among-append (f x) .1
+          (⊎-elim (λ e. inl (subst (λ z. y among f z) e (p .2))) (λ k. inr (ih .1 (p .0, k, p .2))) (first-or-later (p .1))),
+    )
+
+pub among-upTo : {x : ℕ} (n : ℕ) → x among upTo n ↔ (x < n)
+unfolding upTo
+among-upTo zero = ((λ m. absurd (nowhere m)), λ h. absurd (not-suc-le-zero h))
+among-upTo (suc n) =
+    let ih = among-upTo n in (
+      λ m. ⊎-elim (λ q. let h = ih .0 q in omega arith) (λ q. let e = List·Memᴰ·eq-of-singleton q in omega arith) (among-append (upTo n) .0 m),
+      λ h. among-append (upTo n) .1 (⊎-elim (λ e. inr (List·Memᴰ·head e)) (λ l. inl (ih .1 l)) (eq-or-lt-of-le (le-of-suc-le-suc h))),
+    )
+
+pub among-downFrom : {x : ℕ} (n : ℕ) → x among downFrom n ↔ (x < n)
+unfolding downFrom
+among-downFrom zero = ((λ m. absurd (nowhere m)), λ h. absurd (not-suc-le-zero h))
+among-downFrom (suc n) =
+    let ih = among-downFrom n in (
+      λ m. ⊎-elim (λ e. omega arith) (λ q. let h = ih .0 q in omega arith) (first-or-later m),
+      λ h. ⊎-elim (λ e. List·Memᴰ·head e) (λ l. later (ih .1 l)) (eq-or-lt-of-le (le-of-suc-le-suc h)),
+    )
+
+-- ---- and over the numbers below n
+module _ (P : ℕ → Type 0) (f : ℕ → Bool) (d : (k : ℕ) → Decides (P k) (f k)) (n : ℕ) where
+  pub dec-all : Decides ((k : ℕ) → k < n → P k) (every f (upTo n))
+  dec-all = dec-iff (λ p k l. p k (among-upTo n .1 l), λ p k m. p k (among-upTo n .0 m)) (dec-every f P d (upTo n))
+
+  pub dec-any : Decides ((k : ℕ) × (k < n) × P k) (some f (upTo n))
+  dec-any = dec-iff (λ p. (p .0, among-upTo n .0 (p .1), p .2), λ p. (p .0, among-upTo n .1 (p .1), p .2)) (dec-some f P d (upTo n))
+
+-- ---- pairs of members
+module _ {A : Type 0} where
+  pub pairwise-map : {R S : A → A → Type 0} → ((x y : A) → R x y → S x y) → (l : List A) → Pairwise R l → Pairwise S l
+  pairwise-map f [] p = tt
+  pairwise-map f (x ∷ l) p = (λ y m. f x y (p .0 y m), pairwise-map f l (p .1))
+
+  pub pairwise-append : (R : A → A → Type 0) (l m : List A) → Pairwise R l → Pairwise R m → ((x y : A) → x among l → y among m → R x y) → Pairwise R (l ++ m)
+  pairwise-append R [] m p q h = q
+  pairwise-append R (x ∷ l) m p q h =
+      (λ y k. ⊎-elim (p .0 y) (h x y here) (among-append l .0 k), pairwise-append R l m (p .1) q (λ z y k. h z y (later k)))
+
+  -- of two parts of a list, each member of the first stands before each of the second
+  pub pairwise-split : (R : A → A → Type 0) (l m : List A) → Pairwise R (l ++ m) → (x y : A) → x among l → y among m → R x y
+  pairwise-split R [] m p x y h k = absurd (nowhere h)
+  pairwise-split R (z ∷ l) m p x y h k =
+      ⊎-elim (λ e. subst (λ w. R w y) (sym e) (p .0 y (among-append l .1 (inr k)))) (λ q. pairwise-split R l m (p .1) x y q k) (first-or-later h)
+
+  pub pairwise-keep : (R : A → A → Type 0) (f : A → Bool) (l : List A) → Pairwise R l → Pairwise R (keep f l)
+  unfolding keep
+  pairwise-keep R f [] p = tt
+  pairwise-keep R f (x ∷ l) p = go (f x) (pairwise-keep R f l (p .1))
+    where
+      go : (b : Bool) → Pairwise R (keep f l) → Pairwise R (cond b (x ∷ keep f l) (keep f l))
+      go true q = (λ y m. p .0 y (among-keep f l .0 m .0), q)
+      go false q = q
+
+  -- ---- a list with no member twice is no longer than one that has all its members
+  split : {x : A} (l : List A) → x among l → (a : List A) × (b : List A) × (l ≡ a ++ x ∷ b)
+  split [] m = absurd (nowhere m)
+  split (y ∷ l) m =
+      ⊎-elim (λ e. ([], l, rw e)) (λ k. let (a, b, e) = split l k in (y ∷ a, b, ap (λ z. y ∷ z) e)) (first-or-later m)
+
+  without : {x y : A} (a b : List A) → (y ≡ x → ⊥) → y among (a ++ x ∷ b) → y among (a ++ b)
+  without a b n m = among-append a .1 (⊎-elim inl (λ q. ⊎-elim (λ e. absurd (n e)) inr (first-or-later q)) (among-append a .0 m))
+
+  pub no-longer : (l m : List A) → Distinct l → ((x : A) → x among l → x among m) → length l ≤ length m
+  no-longer [] m d f = zero-le
+  no-longer (x ∷ l) m d f =
+      let (a, b, e) = split m (f x here) in
+      let ih = no-longer l (a ++ b) (d .1) (λ y k. without a b (λ z. d .0 y k (sym z)) (subst (λ z. y among z) e (f y (later k)))) in
+      omega (arith, ap length e, length-append a (x ∷ b), length-append a b)
+
+  pub as-long : (l m : List A) → Distinct l → Distinct m → ((x : A) → (x among l) ↔ (x among m)) → length l ≡ length m
+  as-long l m d e f = le-antisymm (no-longer l m d (λ x. f x .0)) (no-longer m l e (λ x. f x .1))
+
+pub upTo-rising : (n : ℕ) → Pairwise _<_ (upTo n)
+unfolding upTo
+upTo-rising zero = tt
+upTo-rising (suc n) =
+    pairwise-append _<_ (upTo n) (n ∷ []) (upTo-rising n) (λ y m. absurd (nowhere m), tt)
+    (λ x y k m. let l = among-upTo n .0 k in let e = List·Memᴰ·eq-of-singleton m in omega arith)

@@ -1,0 +1,82 @@
+-- The size of a set: how many members it has. A proper subset is smaller. Assumes nothing.
+use Prim.Native.Nat.{ℕ, zero, suc, _+_, _*_, _/_, _%_, _^_, _≤_, _<_}
+use mathlib.Core.Path.{_≡_, refl, sym, ap, _∙_, subst}
+use mathlib.Core.Bool.{Bool, true, false}
+use mathlib.Core.List.{List, [], _∷_, _++_}
+use mathlib.Core.Logic.{_↔_, _⊎_, ⊎-elim}
+use native.Mathlib.Omega.{arith}
+use native.Mathlib.Nat.{mod-eq-of-lt, mod-one, mod-lt, pow-suc, lt-of-not-le, lt-of-le-of-lt}
+use lib.Count.{ones, ones-cat, ones-le, onesIn}
+use lib.ListN.{length, length-append}
+use lib.Pow.{mod-pow-add, pow-pos}
+use Rattle.sets.specs.Decides.{decided, is-true, is-false, dec-eq}
+use Rattle.sets.specs.Lists.{_among_, keep, keep-snoc, among-keep, only, upTo, among-upTo, upTo-rising, Pairwise, Distinct, first-or-later, pairwise-map, pairwise-keep, no-longer}
+use Rattle.sets.specs.Sets.{_∈_, _⊆_, _⊂_, _∈?_, size}
+use Rattle.sets.specs.Members.{dec-∈, ∈-below, ⊆-antisym, ⊆-le}
+
+-- the members of x below n, rising
+unfoldable pub members : ℕ → ℕ → List ℕ
+members n x = keep (λ a. a ∈? x) (upTo n)
+
+-- the n lowest bits, counted
+size-mod : (n x : ℕ) → size (x % 2 ^ n) ≡ length (members n x)
+unfolding members upTo keep ones onesIn
+size-mod zero x = ap ones (mod-one x)
+size-mod (suc n) x =
+    ap ones (ap (λ k. x % 2 ^ k) (omega arith) ∙ mod-pow-add x 1 n)
+    ∙ ones-cat n (x / 2 ^ n % 2) (x % 2 ^ n) (mod-lt x (pow-pos n))
+    ∙ omega (arith, size-mod n x, digit (n ∈? x) refl, ap length (keep-snoc (λ a. a ∈? x) (upTo n) n), length-append (members n x) (only (n ∈? x) n))
+  where
+    digit : (b : Bool) → (n ∈? x) ≡ b → ones (x / 2 ^ n % 2) ≡ length (only b n)
+    digit true e = ap ones (dec-eq (x / 2 ^ n % 2) 1 .yes e)
+    digit false e = let k = dec-eq (x / 2 ^ n % 2) 1 .no e in let z : x / 2 ^ n % 2 ≡ 0 = omega arith in ap ones z
+
+pub size-members : (n x : ℕ) → x < 2 ^ n → size x ≡ length (members n x)
+size-members n x l = ap ones (sym (mod-eq-of-lt l)) ∙ size-mod n x
+
+pub size-below : (n x : ℕ) → x < 2 ^ n → size x ≤ n
+size-below n x l = ones-le n x l
+
+among-members : {a : ℕ} (n x : ℕ) → x < 2 ^ n → a among members n x ↔ (a ∈ x)
+unfolding members
+among-members {a} n x l = (
+  λ m. dec-∈ a x .yes (among-keep _ (upTo n) .0 m .1),
+  λ m. among-keep _ (upTo n) .1 (among-upTo n .1 (∈-below l m), is-true (dec-∈ a x) m),
+)
+
+members-distinct : (n x : ℕ) → Distinct (members n x)
+unfolding members
+members-distinct n x = pairwise-keep _ _ (upTo n) (pairwise-map (λ a b l e. omega arith) (upTo n) (upTo-rising n))
+
+below-pow : (n : ℕ) → n < 2 ^ n
+below-pow zero = omega arith
+below-pow (suc n) = omega (arith, below-pow n, pow-suc 2 n)
+
+-- the two sets of x ⊆ y as the lists of their members
+module _ {x y : ℕ} (s : x ⊆ y) where
+  y-fits : y < 2 ^ y
+  y-fits = below-pow y
+
+  x-fits : x < 2 ^ y
+  x-fits = lt-of-le-of-lt (⊆-le s) y-fits
+
+  mapped : (a : ℕ) → a among members y x → a among members y y
+  mapped a m = among-members y y y-fits .1 (s .into (among-members y x x-fits .0 m))
+
+  pub size-⊆ : size x ≤ size y
+  size-⊆ = rw (size-members y x x-fits, size-members y y y-fits) (no-longer (members y x) (members y y) (members-distinct y x) mapped)
+
+  -- a member of y that is not in x makes y larger
+  one-more : (a : ℕ) → a ∈ y → (a ∈ x → ⊥) → size x < size y
+  one-more a m n =
+      rw (size-members y x x-fits, size-members y y y-fits)
+      (no-longer (a ∷ members y x) (members y y)
+      (λ b k e. n (among-members y x x-fits .0 (subst (λ z. z among members y x) (sym e) k)), members-distinct y x)
+      (λ b k. ⊎-elim (λ e. among-members y y y-fits .1 (subst (λ z. z ∈ y) (sym e) m)) (mapped b) (first-or-later k)))
+
+pub size-⊂ : {x y : ℕ} → x ⊂ y → size x < size y
+size-⊂ {x} {y} s =
+    lt-of-not-le (λ q.
+    s .differ (⊆-antisym (s .within) (record {
+      into = λ {a} m. ⊎-elim (λ k. k) (λ n. let l = one-more (s .within) a m n in absurd (omega arith)) (decided (dec-∈ a x));
+    })))

@@ -1,0 +1,51 @@
+// A 16-bit word as a set of the numbers 0 to 15: atoms, or epistemic negations. Each contract is in terms of sets; what the tests
+// decide is in specs/Members.antt and specs/Size.antt.
+ghost use mathlib.Core.Path.{_≡_};
+ghost use Prim.Native.Nat.{_^_, _<_};
+ghost use Rattle.sets.specs.Sets.{_∈?_, _⊆?_, _⊂?_, _meets?_, size as sizeOf};
+
+// Is a in the set x?
+pub fn member(a: u16, x: u16) -> bool
+    requires { ⌜ a < 16 ⌝ }
+    ensures { λ r. ⌜ r ≡ (a ∈? x) ⌝ }
+{
+    (x >> a) % 2 == 1
+}
+
+// Is every member of x in y?
+pub fn subset(x: u16, y: u16) -> bool
+    ensures { λ r. ⌜ r ≡ (x ⊆? y) ⌝ }
+{
+    x & y == x
+}
+
+// Is x a subset of y, and not y itself?
+pub fn proper_subset(x: u16, y: u16) -> bool
+    ensures { λ r. ⌜ r ≡ (x ⊂? y) ⌝ }
+{
+    let within = x & y == x;
+    let differ = x != y;
+    within & differ
+}
+
+// Is some member of x in y?
+pub fn meets(x: u16, y: u16) -> bool
+    ensures { λ r. ⌜ r ≡ (x meets? y) ⌝ }
+{
+    x & y != 0
+}
+
+// How many members x has.
+pub fn size(x: u16) -> u32
+    ensures { λ r. ⌜ r ≡ sizeOf x ⌝ }
+{
+    u16::count_ones(x)
+}
+
+// 2 to the power of k: the number of sets of the numbers below k, and the set of k alone.
+pub fn power(k: u16) -> u16
+    requires { ⌜ k < 16 ⌝ }
+    ensures { λ r. ⌜ r ≡ 2 ^ k ⌝ }
+{
+    1 << k
+}
