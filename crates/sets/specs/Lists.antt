@@ -10,7 +10,6 @@ use lib.ListN.{length, length-append}
 use Rattle.sets.specs.Decides.{Decides, dec-true, dec-false, dec-iff, dec-and, dec-or}
 
 infix 45 _among_
-
 -- x stands in the list l
 abbrev pub _among_ : {A : Type 0} → A → List A → Type 0
 x among l = List·Memᴰ x l
@@ -30,6 +29,11 @@ module _ {A : Type 0} where
   unfoldable pub keep : (A → Bool) → List A → List A
   keep f [] = []
   keep f (x ∷ l) = cond (f x) (x ∷ keep f l) (keep f l)
+
+  -- the list has no member
+  abbrev pub null : List A → Bool
+  null [] = true
+  null (x ∷ l) = false
 
   -- x alone where b is true, and nothing else
   abbrev pub only : Bool → A → List A

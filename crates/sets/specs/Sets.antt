@@ -10,7 +10,6 @@ use lib.Dec.{eqb}
 infix 45 _∈_ _⊆_ _⊂_ _∈?_ _⊆?_ _⊂?_ _meets?_
 infixl 66 _∩_
 infixl 65 _∪_
-
 -- ---- what is meant
 
 -- a is in x: bit a of x, whose value is 2 ^ a, is set

@@ -1,0 +1,30 @@
+-- What the rest of document 01 is said of: a number of atoms, the epistemic negations, and a reduct for each guess.
+use Prim.Native.Nat.{ℕ, _^_}
+use mathlib.Core.List.{List}
+use lib.ListN.{length}
+use Rattle.sets.specs.Lists.{upTo}
+use Rattle.semantics.specs.Definitions.Rules.{Rule, EpistemicRule}
+use Rattle.semantics.specs.Definitions.Guesses.{Negation, negationsOf, numbered}
+use Rattle.semantics.specs.Definitions.Reduct.{holdsBy, reduct}
+
+pub record Setting : Type 0 where
+  pub atoms : ℕ
+  pub negations : List Negation
+  pub program : ℕ → List Rule
+
+-- of n atoms and the rules of a sheet
+abbrev pub settingOf : ℕ → List EpistemicRule → Setting
+settingOf n rs =
+    let es = negationsOf n rs in
+    record { atoms = n; negations = es; program = λ g. reduct n (holdsBy es g) rs }
+
+-- "k is how many there are"
+abbrev pub k : Setting → ℕ
+k s = length (s .negations)
+
+abbrev pub negation : Setting → ℕ → Negation
+negation s j = numbered (s .negations) j
+
+-- "A guess is a number below 2^k": all of them, rising
+abbrev pub guesses : Setting → List ℕ
+guesses s = upTo (2 ^ k s)

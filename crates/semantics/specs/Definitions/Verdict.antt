@@ -1,0 +1,60 @@
+-- Document 01, "Verdict on a guess".
+use Prim.Native.Nat.{ℕ, _^_}
+use mathlib.Core.Bool.{Bool, true, false, not, cond}
+use mathlib.Core.List.{List}
+use lib.Dec.{eqb}
+use lib.ListN.{length}
+use Rattle.sets.specs.Lists.{keep, upTo, null}
+use Rattle.sets.specs.Sets.{_∈?_, setOf, ⋂, ⋃}
+use Rattle.semantics.specs.Definitions.Guesses.{Negation, not-known, may-be}
+use Rattle.semantics.specs.Definitions.Setting.{Setting, k, negation}
+use Rattle.semantics.specs.Definitions.Stable.{stable}
+
+-- "Let W be the stable sets of the reduct"; "W by rising number"
+unfoldable pub beliefSets : Setting → ℕ → List ℕ
+beliefSets s g = keep (stable (s .program g)) (upTo (2 ^ s .atoms))
+
+-- "known is their intersection, possible their union"
+abbrev pub knownIn : Setting → List ℕ → ℕ
+knownIn s w = ⋂ (s .atoms) w
+
+abbrev pub possibleIn : List ℕ → ℕ
+possibleIn w = ⋃ w
+
+-- "the guess found has "not K a" where a is not known and "M a" where a is possible"
+abbrev pub foundHas : (known possible : ℕ) → Negation → Bool
+foundHas known possible (not-known a) = not (a ∈? known)
+foundHas known possible (may-be a) = a ∈? possible
+
+unfoldable pub foundBy : Setting → List ℕ → ℕ
+foundBy s w = setOf (λ j. foundHas (knownIn s w) (possibleIn w) (negation s j)) (k s)
+
+pub data Verdict : Type 0 where
+  empty : Verdict
+  other : (found : ℕ) → Verdict
+  verified : (known possible sets : ℕ) → Verdict
+
+-- "If W is empty: "empty". [..] If it differs from the guess given: "other", with the guess found. Else "verified", with known, possible
+-- and the number of sets."
+abbrev pub judge : Setting → ℕ → List ℕ → Verdict
+judge s g w =
+    cond (null w) empty
+    (cond (eqb (foundBy s w) g) (verified (knownIn s w) (possibleIn w) (length w)) (other (foundBy s w)))
+
+unfoldable pub verdict : Setting → ℕ → Verdict
+verdict s g = judge s g (beliefSets s g)
+
+abbrev pub isEmpty : Verdict → Bool
+isEmpty empty = true
+isEmpty (other f) = false
+isEmpty (verified n p m) = false
+
+abbrev pub isOther : Verdict → Bool
+isOther empty = false
+isOther (other f) = true
+isOther (verified n p m) = false
+
+abbrev pub isVerified : Verdict → Bool
+isVerified empty = false
+isVerified (other f) = false
+isVerified (verified n p m) = true

@@ -1,0 +1,3 @@
+-- Sheets whose lists are known, by computation.
+pub mod Sheets
+pub mod Computed
