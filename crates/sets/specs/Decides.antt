@@ -1,7 +1,7 @@
 -- Tests and the questions that they decide. Assumes nothing.
 use Prim.Native.Nat.{ℕ}
 use mathlib.Core.Path.{_≡_, refl, sym, _∙_}
-use mathlib.Core.Bool.{Bool, true, false, not, _&&_, _||_, true≢false}
+use mathlib.Core.Bool.{Bool, true, false, not, _&&_, _||_, cond, true≢false}
 use mathlib.Core.Logic.{_↔_, _⊎_, inl, inr, ⊎-elim}
 use lib.Dec.{eqb}
 use borrow.Author.Tests.{eqb-true, eqb-false}
@@ -55,6 +55,11 @@ dec-or {a = false} d e = dec-iff (inr, ⊎-elim (λ p. absurd (d .no refl p)) (�
 pub dec-imp : {P Q : Type 0} {a b : Bool} → Decides P a → Decides Q b → Decides (P → Q) (not a || b)
 dec-imp {a = true} d e = dec-iff (λ q _. q, λ f. f (d .yes refl)) e
 dec-imp {a = false} d e = dec-true (λ p. absurd (d .no refl p))
+
+-- Q where P, and R where not
+pub dec-if : {P Q R : Type 0} {a b c : Bool} → Decides P a → Decides Q b → Decides R c → Decides ((P × Q) ⊎ ((P → ⊥) × R)) (cond a b c)
+dec-if {a = true} d e f = dec-iff (λ q. inl (d .yes refl, q), ⊎-elim (λ p. p .1) (λ p. absurd (p .0 (d .yes refl)))) e
+dec-if {a = false} d e f = dec-iff (λ r. inr (d .no refl, r), ⊎-elim (λ p. absurd (d .no refl (p .0))) (λ p. p .1)) f
 
 -- ---- first answers
 -- a test is its own question

@@ -114,23 +114,27 @@ module _ {A : Type 0} where
     keep-snoc l x = keep-append l (x ∷ []) ∙ rw keep-cons (rw append-nil)
 
     -- ---- the tests decide "for every member" and "for some member"
-    pub dec-every : (P : A → Type 0) → ((x : A) → Decides (P x) (f x)) → (l : List A) → Decides ((x : A) → x among l → P x) (every f l)
+    pub dec-every : (P : A → Type 0) (l : List A) → ((x : A) → x among l → Decides (P x) (f x)) → Decides ((x : A) → x among l → P x) (every f l)
     unfolding every
-    dec-every P d [] = dec-true (λ x m. absurd (nowhere m))
-    dec-every P d (y ∷ l) =
+    dec-every P [] d = dec-true (λ x m. absurd (nowhere m))
+    dec-every P (y ∷ l) d =
         dec-iff (
           λ p x m. ⊎-elim (λ e. subst P (sym e) (p .0)) (p .1 x) (first-or-later m),
           λ p. (p y here, λ x m. p x (later m)),
-        ) (dec-and (d y) (dec-every P d l))
+        ) (dec-and (d y here) (dec-every P l (λ x m. d x (later m))))
 
-    pub dec-some : (P : A → Type 0) → ((x : A) → Decides (P x) (f x)) → (l : List A) → Decides ((x : A) × (x among l) × P x) (some f l)
+    pub dec-some : (P : A → Type 0) (l : List A) → ((x : A) → x among l → Decides (P x) (f x)) → Decides ((x : A) × (x among l) × P x) (some f l)
     unfolding some
-    dec-some P d [] = dec-false (λ p. nowhere (p .1))
-    dec-some P d (y ∷ l) =
+    dec-some P [] d = dec-false (λ p. nowhere (p .1))
+    dec-some P (y ∷ l) d =
         dec-iff (
           ⊎-elim (λ p. (y, here, p)) (λ q. (q .0, later (q .1), q .2)),
           λ q. ⊎-elim (λ e. inl (subst P e (q .2))) (λ m. inr (q .0, m, q .2)) (first-or-later (q .1)),
-        ) (dec-or (d y) (dec-some P d l))
+        ) (dec-or (d y here) (dec-some P l (λ x m. d x (later m))))
+
+  pub dec-member : (l : List A) → Decides ((x : A) × (x among l)) (not (null l))
+  dec-member [] = dec-false (λ p. nowhere (p .1))
+  dec-member (x ∷ l) = dec-true (x, here)
 
 pub among-map : {A B : Type 0} (f : A → B) {y : B} (l : List A) → y among map f l ↔ ((x : A) × (x among l) × (y ≡ f x))
 among-map f [] = ((λ m. absurd (nowhere m)), λ p. absurd (nowhere (p .1)))
@@ -169,12 +173,15 @@ among-downFrom (suc n) =
     )
 
 -- ---- and over the numbers below n
-module _ (P : ℕ → Type 0) (f : ℕ → Bool) (d : (k : ℕ) → Decides (P k) (f k)) (n : ℕ) where
+module _ (P : ℕ → Type 0) (f : ℕ → Bool) (n : ℕ) (d : (k : ℕ) → k < n → Decides (P k) (f k)) where
   pub dec-all : Decides ((k : ℕ) → k < n → P k) (every f (upTo n))
-  dec-all = dec-iff (λ p k l. p k (among-upTo n .1 l), λ p k m. p k (among-upTo n .0 m)) (dec-every f P d (upTo n))
+  dec-all =
+      dec-iff (λ p k l. p k (among-upTo n .1 l), λ p k m. p k (among-upTo n .0 m)) (dec-every f P (upTo n) (λ k m. d k (among-upTo n .0 m)))
 
   pub dec-any : Decides ((k : ℕ) × (k < n) × P k) (some f (upTo n))
-  dec-any = dec-iff (λ p. (p .0, among-upTo n .0 (p .1), p .2), λ p. (p .0, among-upTo n .1 (p .1), p .2)) (dec-some f P d (upTo n))
+  dec-any =
+      dec-iff (λ p. (p .0, among-upTo n .0 (p .1), p .2), λ p. (p .0, among-upTo n .1 (p .1), p .2))
+      (dec-some f P (upTo n) (λ k m. d k (among-upTo n .0 m)))
 
 -- ---- pairs of members
 module _ {A : Type 0} where
@@ -227,3 +234,48 @@ upTo-rising zero = tt
 upTo-rising (suc n) =
     pairwise-append _<_ (upTo n) (n ∷ []) (upTo-rising n) (λ y m. absurd (nowhere m), tt)
     (λ x y k m. let l = among-upTo n .0 k in let e = List·Memᴰ·eq-of-singleton m in omega arith)
+
+pub downFrom-falling : (n : ℕ) → Pairwise (λ i j. j < i) (downFrom n)
+unfolding downFrom
+downFrom-falling zero = tt
+downFrom-falling (suc n) = (λ j m. among-downFrom n .0 m, downFrom-falling n)
+
+pub pairwise-flat : {A B : Type 0} (R : B → B → Type 0) (S : A → A → Type 0) (f : A → List B) (l : List A)
+    → Pairwise S l → ((i : A) → Pairwise R (f i)) → ((i j : A) (x y : B) → S i j → x among f i → y among f j → R x y) → Pairwise R (flat f l)
+unfolding flat
+pairwise-flat R S f [] p q h = tt
+pairwise-flat R S f (i ∷ l) p q h =
+    pairwise-append R (f i) (flat f l) (q i) (pairwise-flat R S f l (p .1) q h)
+    (λ x y m n. let (j, k, o) = among-flat f l .0 n in h i j x y (p .0 j k) m o)
+
+-- ---- how many members pass a test
+abbrev pub one : Bool → ℕ
+one b = cond b 1 0
+
+module _ {A : Type 0} where
+  pub length-keep : (f : A → Bool) (x : A) (l : List A) → length (keep f (x ∷ l)) ≡ one (f x) + length (keep f l)
+  unfolding keep
+  length-keep f x l = go (f x)
+    where
+      go : (b : Bool) → length (cond b (x ∷ keep f l) (keep f l)) ≡ one b + length (keep f l)
+      go true = omega arith
+      go false = omega arith
+
+  -- where each member that passes f passes one of three tests, and no other member passes any
+  pub length-shared : (f a b c : A → Bool) (l : List A) → ((x : A) → x among l → one (f x) ≡ one (a x) + one (b x) + one (c x))
+      → length (keep f l) ≡ length (keep a l) + length (keep b l) + length (keep c l)
+  unfolding keep
+  length-shared f a b c [] h = refl
+  length-shared f a b c (x ∷ l) h =
+      let ih = length-shared f a b c l (λ y m. h y (later m)) in
+      omega (arith, h x here, length-keep f x l, length-keep a x l, length-keep b x l, length-keep c x l)
+
+  pub keep-all : (l : List A) → keep (λ _. true) l ≡ l
+  unfolding keep
+  keep-all [] = refl
+  keep-all (x ∷ l) = ap (λ m. x ∷ m) (keep-all l)
+
+pub length-upTo : (n : ℕ) → length (upTo n) ≡ n
+unfolding upTo
+length-upTo zero = refl
+length-upTo (suc n) = length-append (upTo n) (n ∷ []) ∙ omega (arith, length-upTo n)

@@ -1,6 +1,6 @@
 -- Document 01, "Ruling out".
 use Prim.Native.Nat.{ℕ, zero, suc, _*_}
-use mathlib.Core.Bool.{Bool, true, false, not, _&&_, _||_}
+use mathlib.Core.Bool.{Bool, not, _&&_, _||_, cond}
 use mathlib.Core.List.{List}
 use lib.Dec.{eqb}
 use Rattle.sets.specs.Lists.{every, some, upTo}
@@ -46,12 +46,10 @@ abbrev pub propagated : ℕ → List Rule → Pair
 propagated n p = steps n p (2 * n)
 
 -- ""not K a" is in the guess and a in T, or is a negation left out and a in F, or "M a" is in the guess and a in F, or is a negation left
--- out and a in T": the first argument says whether it is in the guess
-abbrev pub clashes : Bool → Negation → Pair → Bool
-clashes true (not-known a) x = a ∈? x .T
-clashes false (not-known a) x = a ∈? x .F
-clashes true (may-be a) x = a ∈? x .F
-clashes false (may-be a) x = a ∈? x .T
+-- out and a in T"
+abbrev pub clashes : (inGuess : Bool) → Negation → Pair → Bool
+clashes inGuess (not-known a) x = cond inGuess (a ∈? x .T) (a ∈? x .F)
+clashes inGuess (may-be a) x = cond inGuess (a ∈? x .F) (a ∈? x .T)
 
 -- "A guess is contradicted when T and F meet, or a sure rule has an empty head, or" one of those
 unfoldable pub contradicted : Setting → ℕ → Bool

@@ -1,0 +1,5 @@
+-- For any setting.
+pub mod Stable
+pub mod Verdict
+pub mod Closure
+pub mod Contradicted

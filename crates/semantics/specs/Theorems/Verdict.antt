@@ -1,0 +1,111 @@
+-- 000, Definitions 1 and 5: a guess is verified exactly when it is reduct-verifiable. Assumes nothing.
+use Prim.Native.Nat.{ℕ, _^_, _<_}
+use mathlib.Core.Path.{_≡_, refl, sym, ap, _∙_, subst}
+use mathlib.Core.Bool.{Bool, true, false, not, _&&_, cond, true≢false, Bool·not-not}
+use mathlib.Core.List.{List}
+use mathlib.Core.Logic.{_↔_, _⊎_, ⊎-elim}
+use lib.Dec.{eqb}
+use lib.ListN.{length}
+use Rattle.sets.specs.Decides.{Decides, is-true, decided, dec-one, dec-iff, dec-not, dec-and, dec-eq}
+use Rattle.sets.specs.Lists.{_among_, null, some, dec-some, dec-member}
+use Rattle.sets.specs.Sets.{_∈_, _∈?_, ⋂, ⋃, setOf}
+use Rattle.sets.specs.Members.{dec-∈, ∈-below, ∈-ext, ∈-⋂, ∈-⋃, ∈-setOf, setOf-below}
+use Rattle.semantics.specs.Definitions.Guesses.{Negation, not-known, may-be}
+use Rattle.semantics.specs.Definitions.Setting.{Setting, k, negation}
+use Rattle.semantics.specs.Definitions.Verdict.{beliefSets, knownIn, possibleIn, foundHas, foundBy, Verdict, empty, other, verified, judge, verdict, isEmpty, isOther, isVerified}
+use Rattle.semantics.specs.Theorems.Stable.{belief-sets}
+
+-- Definition 1: the negation is satisfied by W.
+abbrev pub Satisfied : List ℕ → Negation → Type 0
+Satisfied w (not-known a) = (i : ℕ) × (i among w) × (a ∈ i → ⊥)
+Satisfied w (may-be a) = (i : ℕ) × (i among w) × (a ∈ i)
+
+-- Definition 5: W is not empty, and the guess has exactly the negations that W satisfies.
+pub record Verifiable (s : Setting) (g : ℕ) : Type 0 where
+  pub non-empty : (i : ℕ) × (i among beliefSets s g)
+  pub exact : (j : ℕ) → j < k s → (j ∈ g) ↔ Satisfied (beliefSets s g) (negation s j)
+
+-- ---- known and possible are "in every set of W" and "in some set of W"
+module _ (s : Setting) (w : List ℕ) (within : (i : ℕ) → i among w → i < 2 ^ s .atoms) (first : (i : ℕ) × (i among w)) where
+  pub known-is : (a : ℕ) → a ∈ knownIn s w ↔ ((i : ℕ) → i among w → a ∈ i)
+  known-is a = (
+    λ m. ∈-⋂ a (s .atoms) w .0 m .1,
+    λ f. ∈-⋂ a (s .atoms) w .1 (∈-below (within (first .0) (first .1)) (f (first .0) (first .1)), f),
+  )
+
+  dec-satisfied : (e : Negation) → Decides (Satisfied w e) (foundHas (knownIn s w) (possibleIn w) e)
+  dec-satisfied (not-known a) = dec-iff (one-without, λ p m. p .2 (known-is a .0 m (p .0) (p .1))) (dec-not (dec-∈ a (knownIn s w)))
+    where
+      one-without : (a ∈ knownIn s w → ⊥) → (i : ℕ) × (i among w) × (a ∈ i → ⊥)
+      one-without n =
+          ⊎-elim (λ p. p)
+          (λ q. absurd (n (known-is a .1 (λ i m. ⊎-elim (λ h. h) (λ h. absurd (q (i, m, h))) (decided (dec-∈ a i))))))
+          (decided (dec-some (λ i. not (a ∈? i)) (λ i. a ∈ i → ⊥) w (λ i _. dec-not (dec-∈ a i))))
+  dec-satisfied (may-be a) = dec-iff (∈-⋃ a w) (dec-∈ a (possibleIn w))
+
+  -- the guess found has exactly the negations that W satisfies
+  pub found-exact : (j : ℕ) → j < k s → (j ∈ foundBy s w) ↔ Satisfied w (negation s j)
+  unfolding foundBy
+  found-exact j l =
+      let d = dec-satisfied (negation s j) in
+      (λ m. d .yes (∈-setOf _ j (k s) .0 m .1), λ p. ∈-setOf _ j (k s) .1 (l, is-true d p))
+
+pub found-below : (s : Setting) (w : List ℕ) → foundBy s w < 2 ^ k s
+unfolding foundBy
+found-below s w = setOf-below _ (k s)
+
+-- ---- the three verdicts, by whether W is empty and whether the guess found is the one given
+module _ (s : Setting) (w : List ℕ) where
+  abbrev judged : (none same : Bool) → Verdict
+  judged none same = cond none empty (cond same (verified (knownIn s w) (possibleIn w) (length w)) (other (foundBy s w)))
+
+  tests : (none same : Bool) → (isEmpty (judged none same) ≡ none) × (isVerified (judged none same) ≡ not none && same) × (isOther (judged none same) ≡ not none && not same)
+  tests true same = (refl, refl, refl)
+  tests false true = (refl, refl, refl)
+  tests false false = (refl, refl, refl)
+
+  says : (none same : Bool) → (isVerified (judged none same) ≡ true → judged none same ≡ verified (knownIn s w) (possibleIn w) (length w)) × (isOther (judged none same) ≡ true → judged none same ≡ other (foundBy s w))
+  says true same = ((λ e. absurd (true≢false (sym e))), λ e. absurd (true≢false (sym e)))
+  says false true = ((λ e. refl), λ e. absurd (true≢false (sym e)))
+  says false false = ((λ e. absurd (true≢false (sym e))), λ e. refl)
+
+module _ (s : Setting) (g : ℕ) where
+  pub within : (i : ℕ) → i among beliefSets s g → i < 2 ^ s .atoms
+  within i m = belief-sets s g .0 m .0
+
+  -- 'verified' exactly when reduct-verifiable
+  pub dec-verifiable : g < 2 ^ k s → Decides (Verifiable s g) (isVerified (verdict s g))
+  unfolding verdict
+  dec-verifiable l =
+      let w = beliefSets s g in
+      rw (tests s w (null w) (eqb (foundBy s w) g) .1)
+      (dec-iff (
+        λ p. record { non-empty = p .0; exact = λ j h. subst (λ x. (j ∈ x) ↔ Satisfied w (negation s j)) (p .1) (found-exact s w within (p .0) j h) },
+        λ v. (v .non-empty, ∈-ext (foundBy s w) g (λ j. (
+          λ m. let h = ∈-below (found-below s w) m in v .exact j h .1 (found-exact s w within (v .non-empty) j h .0 m),
+          λ m. let h = ∈-below l m in found-exact s w within (v .non-empty) j h .1 (v .exact j h .0 m),
+        ))),
+      ) (dec-and (dec-member w) (dec-eq (foundBy s w) g)))
+
+  -- and then it says what is known, what is possible, and how many belief sets there are
+  pub verified-verdict : isVerified (verdict s g) ≡ true → verdict s g ≡ verified (knownIn s (beliefSets s g)) (possibleIn (beliefSets s g)) (length (beliefSets s g))
+  unfolding verdict
+  verified-verdict = says s (beliefSets s g) (null (beliefSets s g)) (eqb (foundBy s (beliefSets s g)) g) .0
+
+  -- 'empty' exactly when no set is stable
+  pub dec-empty : Decides ((i : ℕ) × (i among beliefSets s g) → ⊥) (isEmpty (verdict s g))
+  unfolding verdict
+  dec-empty =
+      let w = beliefSets s g in
+      rw (tests s w (null w) (eqb (foundBy s w) g) .0) (subst (Decides _) (Bool·not-not (null w)) (dec-not (dec-member w)))
+
+  -- 'other' exactly when some set is and the guess found is another; it is said
+  pub dec-other : Decides (((i : ℕ) × (i among beliefSets s g)) × (foundBy s (beliefSets s g) ≡ g → ⊥)) (isOther (verdict s g))
+  unfolding verdict
+  dec-other =
+      let w = beliefSets s g in
+      rw (tests s w (null w) (eqb (foundBy s w) g) .2) (dec-and (dec-member w) (dec-not (dec-eq (foundBy s w) g)))
+
+  pub other-verdict : isOther (verdict s g) ≡ true → verdict s g ≡ other (foundBy s (beliefSets s g))
+  unfolding verdict
+  other-verdict = says s (beliefSets s g) (null (beliefSets s g)) (eqb (foundBy s (beliefSets s g)) g) .1
