@@ -1,6 +1,6 @@
 -- Lists as collections: membership, tests over the members, the members that pass a test, the numbers below n. Assumes nothing.
 use Prim.Native.Nat.{ℕ, zero, suc, _+_, _≤_, _<_, zero-le, suc-le-suc}
-use mathlib.Core.Path.{_≡_, refl, sym, ap, _∙_, subst}
+use mathlib.Core.Path.{_≡_, refl, sym, ap, ap₂, _∙_, subst}
 use mathlib.Core.Bool.{Bool, true, false, not, _&&_, _||_, cond, true≢false, and-assoc, or-assoc}
 use mathlib.Core.List.{List, [], _∷_, _++_, append-nil, append-assoc, map, List·Memᴰ, List·Memᴰ·head, List·Memᴰ·tail, List·Memᴰ·not-nil, List·Memᴰ·cases-cons, List·Memᴰ·append-cases, List·Memᴰ·eq-of-singleton, Memᴰ·append-left, Memᴰ·append-right}
 use mathlib.Core.Logic.{_↔_, _⊎_, inl, inr, ⊎-elim}
@@ -35,7 +35,7 @@ module _ {A : Type 0} where
   null [] = true
   null (x ∷ l) = false
 
-  -- x alone where b is true, and nothing else
+  -- x alone where b is true, otherwise nothing
   abbrev pub only : Bool → A → List A
   only b x = cond b (x ∷ []) []
 
@@ -185,9 +185,9 @@ module _ (P : ℕ → Type 0) (f : ℕ → Bool) (n : ℕ) (d : (k : ℕ) → k 
 
 -- ---- pairs of members
 module _ {A : Type 0} where
-  pub pairwise-map : {R S : A → A → Type 0} → ((x y : A) → R x y → S x y) → (l : List A) → Pairwise R l → Pairwise S l
-  pairwise-map f [] p = tt
-  pairwise-map f (x ∷ l) p = (λ y m. f x y (p .0 y m), pairwise-map f l (p .1))
+  pub pairwise-map : {R S : A → A → Type 0} (l : List A) → ((x y : A) → x among l → y among l → R x y → S x y) → Pairwise R l → Pairwise S l
+  pairwise-map [] f p = tt
+  pairwise-map (x ∷ l) f p = (λ y m. f x y here (later m) (p .0 y m), pairwise-map l (λ y z m n. f y z (later m) (later n)) (p .1))
 
   pub pairwise-append : (R : A → A → Type 0) (l m : List A) → Pairwise R l → Pairwise R m → ((x y : A) → x among l → y among m → R x y) → Pairwise R (l ++ m)
   pairwise-append R [] m p q h = q
@@ -227,6 +227,25 @@ module _ {A : Type 0} where
 
   pub as-long : (l m : List A) → Distinct l → Distinct m → ((x : A) → (x among l) ↔ (x among m)) → length l ≡ length m
   as-long l m d e f = le-antisymm (no-longer l m d (λ x. f x .0)) (no-longer m l e (λ x. f x .1))
+
+-- ---- two lists in one strict order, with the same members, are equal
+module _ {A : Type 0} (R : A → A → Type 0) (strict : (x y : A) → R x y → R y x → ⊥) where
+  pub sorted-same : (l m : List A) → Pairwise R l → Pairwise R m → ((x : A) → (x among l) ↔ (x among m)) → l ≡ m
+  sorted-same [] [] p q f = refl
+  sorted-same [] (y ∷ m) p q f = absurd (nowhere (f y .1 here))
+  sorted-same (x ∷ l) [] p q f = absurd (nowhere (f x .0 here))
+  sorted-same (x ∷ l) (y ∷ m) p q f = ap₂ _∷_ heads (sorted-same l m (p .1) (q .1) tails)
+    where
+      heads : x ≡ y
+      heads =
+          ⊎-elim (λ e. e) (λ h. ⊎-elim sym (λ k. absurd (strict x y (p .0 y k) (q .0 x h))) (first-or-later (f y .1 here)))
+          (first-or-later (f x .0 here))
+
+      tails : (z : A) → (z among l) ↔ (z among m)
+      tails z = (
+        λ h. ⊎-elim (λ e. absurd (let r = p .0 z h in let r′ : R x x = subst (R x) (e ∙ sym heads) r in strict x x r′ r′)) (λ k. k) (first-or-later (f z .0 (later h))),
+        λ h. ⊎-elim (λ e. absurd (let r = q .0 z h in let r′ : R y y = subst (R y) (e ∙ heads) r in strict y y r′ r′)) (λ k. k) (first-or-later (f z .1 (later h))),
+      )
 
 pub upTo-rising : (n : ℕ) → Pairwise _<_ (upTo n)
 unfolding upTo

@@ -1,4 +1,5 @@
--- A number as a finite set: of atoms, or of epistemic negations. "Bit i (value 2^i) means atom i." Assumes nothing.
+-- A number as a finite set: of atoms, or of epistemic negations. "Bit i (value 2^i) means atom i"; "A set is the number with its atoms'
+-- bits." Assumes nothing.
 use Prim.Native.Nat.{ℕ, zero, suc, _+_, _-_, _/_, _%_, _^_}
 use mathlib.Core.Path.{_≡_}
 use mathlib.Core.Bool.{Bool, not, _&&_, cond}

@@ -46,7 +46,7 @@ among-members {a} n x l = (
 
 members-distinct : (n x : ℕ) → Distinct (members n x)
 unfolding members
-members-distinct n x = pairwise-keep _ _ (upTo n) (pairwise-map (λ a b l e. omega arith) (upTo n) (upTo-rising n))
+members-distinct n x = pairwise-keep _ _ (upTo n) (pairwise-map (upTo n) (λ a b _ _ l e. omega arith) (upTo-rising n))
 
 below-pow : (n : ℕ) → n < 2 ^ n
 below-pow zero = omega arith

@@ -1,22 +1,18 @@
 -- Document 01, "Guesses".
 use Prim.Native.Nat.{ℕ}
-use mathlib.Core.Bool.{Bool, true, false, _&&_, _||_}
+use mathlib.Core.Bool.{Bool, _&&_, _||_}
 use mathlib.Core.List.{List, [], _∷_, _++_}
-use lib.Dec.{eqb}
+use native.Mathlib.Decide.{ℕ-discrete}
 use lib.ListN.{length, getD}
+use Rattle.sets.specs.Decides.{does}
 use Rattle.sets.specs.Lists.{some, only, flat, upTo}
 use Rattle.sets.specs.Sets.{_∈?_}
 use Rattle.semantics.specs.Definitions.Rules.{EpistemicRule, Subjective, K, notK, M, notM}
 
--- The epistemic negations (000, Definition 3): "not K a" and "M a".
+-- The epistemic negations (000, Definition 3): `not-known a` is "not K a", `may-be a` is "M a".
 pub data Negation : Type 0 where
   not-known may-be : ℕ → Negation
-
-abbrev pub sameNegation : Negation → Negation → Bool
-sameNegation (not-known a) (not-known b) = eqb a b
-sameNegation (not-known a) (may-be b) = false
-sameNegation (may-be a) (not-known b) = false
-sameNegation (may-be a) (may-be b) = eqb a b
+  deriving Discrete as sameNegation
 
 -- some rule has a in one of two masks
 abbrev pub mentioned : List EpistemicRule → Subjective → Subjective → ℕ → Bool
@@ -30,10 +26,10 @@ negationsOn rs a = only (mentioned rs K notK a) (not-known a) ++ only (mentioned
 abbrev pub negationsOf : ℕ → List EpistemicRule → List Negation
 negationsOf n rs = flat (negationsOn rs) (upTo n)
 
--- "These are the epistemic negations, numbered from 0": negation j. (For j not below their number no sentence asks for one.)
+-- "These are the epistemic negations (000, Definition 3), numbered from 0": negation j. (At or above their number no sentence asks for one.)
 abbrev pub numbered : List Negation → ℕ → Negation
 numbered es j = getD es j (not-known 0)
 
 -- "bit j set means that negation j is assumed to hold": the negation e is in the guess g
 abbrev pub assumed : List Negation → ℕ → Negation → Bool
-assumed es g e = some (λ j. j ∈? g && sameNegation (numbered es j) e) (upTo (length es))
+assumed es g e = some (λ j. j ∈? g && does (sameNegation ℕ-discrete (numbered es j) e)) (upTo (length es))

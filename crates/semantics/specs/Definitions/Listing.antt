@@ -1,22 +1,24 @@
 -- Document 01, "Order and listing": world views, what each guess counts as, and the records.
 use Prim.Native.Nat.{ℕ}
 use mathlib.Core.Bool.{Bool, not, _&&_}
-use mathlib.Core.List.{List, [], _∷_, map}
-use lib.ListN.{length}
+use mathlib.Core.List.{List, [], _∷_, _++_, map}
+use lib.ListN.{length, drop}
 use Rattle.sets.specs.Lists.{some, keep, flat}
 use Rattle.sets.specs.Sets.{_⊂?_}
-use Rattle.semantics.specs.Definitions.Setting.{Setting, guesses}
+use Rattle.semantics.specs.Definitions.Setting.{Setting, k, guesses}
 use Rattle.semantics.specs.Definitions.Verdict.{verdict, isEmpty, isOther, isVerified, beliefSets, knownIn, possibleIn}
 use Rattle.semantics.specs.Definitions.Propagation.{contradicted}
+use Rattle.semantics.specs.Definitions.Order.{order}
 
 module _ (s : Setting) where
-  -- "A world view is a verified guess of which no proper superset is verified (000, Definition 6)"
-  unfoldable pub worldView : ℕ → Bool
-  worldView g = isVerified (verdict s g) && not (some (λ h. g ⊂? h && isVerified (verdict s h)) (guesses s))
+  -- "A world view is a verified guess of which no proper superset is verified (000, Definition 6); guesses are compared here as the sets of
+  -- negations they assume."
+  unfoldable pub isWorldView : ℕ → Bool
+  isWorldView g = isVerified (verdict s g) && not (some (λ h. g ⊂? h && isVerified (verdict s h)) (guesses s))
 
   -- "covered: proper subset of a world view's guess"
   unfoldable pub covered : ℕ → Bool
-  covered g = some (λ h. g ⊂? h && worldView h) (guesses s)
+  covered g = some (λ h. g ⊂? h && isWorldView h) (guesses s)
 
   -- "ruled: not covered, and contradicted"
   abbrev pub ruled : ℕ → Bool
@@ -24,7 +26,7 @@ module _ (s : Setting) where
 
   -- "tested: all others; they are empty, other or views by their verdict"
   abbrev pub tested : ℕ → Bool
-  tested g = not (covered g) && not (contradicted s g)
+  tested g = not (covered g) && not (ruled g)
 
   abbrev pub testedEmpty : ℕ → Bool
   testedEmpty g = tested g && isEmpty (verdict s g)
@@ -32,9 +34,13 @@ module _ (s : Setting) where
   abbrev pub testedOther : ℕ → Bool
   testedOther g = tested g && isOther (verdict s g)
 
+  -- these are the world views: Theorems/WorldView.antt, `view-tested`
+  abbrev pub testedView : ℕ → Bool
+  testedView g = tested g && isVerified (verdict s g)
+
   -- "each of the six numbers says how many guesses bear its name"
-  abbrev pub number : (ℕ → Bool) → ℕ
-  number f = length (keep f (guesses s))
+  abbrev pub count : (ℕ → Bool) → ℕ
+  count f = length (keep f (guesses s))
 
 -- "The result has views, covered, ruled, tested, empty, other."
 pub record Tally : Type 0 where
@@ -47,31 +53,37 @@ pub record Tally : Type 0 where
 
 unfoldable pub tallyOf : Setting → Tally
 tallyOf s = record {
-  views = number s (worldView s);
-  covered = number s (covered s);
-  ruled = number s (ruled s);
-  tested = number s (tested s);
-  empty = number s (testedEmpty s);
-  other = number s (testedOther s);
+  views = count s (isWorldView s);
+  covered = count s (covered s);
+  ruled = count s (ruled s);
+  tested = count s (tested s);
+  empty = count s (testedEmpty s);
+  other = count s (testedOther s);
 }
 
--- "four 16-bit words, guess, known, possible, number of sets". "Known, possible and number of sets are those of the verdict on that guess"
+-- "four 16-bit words, guess, known, possible, number of sets"
 pub record View : Type 0 where
   pub guess : ℕ
   pub known : ℕ
   pub possible : ℕ
   pub sets : ℕ
 
+-- "Known, possible and number of sets are those of the verdict on that guess": Theorems/Verdict.antt, `verified-verdict`
 abbrev pub viewOf : Setting → ℕ → View
 viewOf s g = record { guess = g; known = knownIn s (beliefSets s g); possible = possibleIn (beliefSets s g); sets = length (beliefSets s g) }
 
+-- a list of guesses "with only the world views kept"
+unfoldable pub viewsAlong : Setting → List ℕ → List View
+viewsAlong s l = map (viewOf s) (keep (isWorldView s) l)
+
 -- "the order's list with only the world views kept"
-unfoldable pub views : Setting → List ℕ → List View
-views s l = map (viewOf s) (keep (worldView s) l)
+abbrev pub listing : Setting → List View
+listing s = viewsAlong s (order (k s))
 
 -- "each as its four words"
-abbrev pub words : View → List ℕ
-words v = v .guess ∷ v .known ∷ v .possible ∷ v .sets ∷ []
+abbrev pub words : List View → List ℕ
+words vs = flat (λ v. v .guess ∷ v .known ∷ v .possible ∷ v .sets ∷ []) vs
 
-abbrev pub records : Setting → List ℕ → List ℕ
-records s l = flat words (views s l)
+-- "and then what stood there before": a lent buffer after the words ws are written to its front
+abbrev pub written : List ℕ → List ℕ → List ℕ
+written ws buffer = ws ++ drop (length ws) buffer

@@ -4,10 +4,11 @@ use mathlib.Core.Path.{_≡_}
 use mathlib.Core.Logic.{_⊎_}
 use mathlib.Core.List.{List}
 use lib.Dec.{eqb}
-use Rattle.sets.specs.Lists.{_among_, keep, flat, upTo, downFrom, Pairwise}
+use Rattle.sets.specs.Lists.{_among_, keep, flat, upTo, downFrom, Pairwise, Distinct}
 use Rattle.sets.specs.Sets.{size}
 
--- "size falling and then number rising"
+-- "size falling and then number rising": sizes k down to 0, in each the guesses by rising number. "for smaller k its members below 2^k are
+-- taken": Theorems/Order.antt, `order-members`.
 unfoldable pub order : ℕ → List ℕ
 order k = flat (λ j. keep (λ g. eqb (size g) j) (upTo (2 ^ k))) (downFrom (suc k))
 
@@ -15,8 +16,9 @@ order k = flat (λ j. keep (λ g. eqb (size g) j) (upTo (2 ^ k))) (downFrom (suc
 abbrev pub Before : ℕ → ℕ → Type 0
 Before g h = (size h < size g) ⊎ ((size g ≡ size h) × (g < h))
 
--- What a listing asks of the list that it goes along: every guess below n is in it, once, and larger ones first.
-pub record Enumerates (n : ℕ) (l : List ℕ) : Type 0 where
-  pub below : (g : ℕ) → g among l → g < n
-  pub all : (g : ℕ) → g < n → g among l
-  pub falling : Pairwise (λ g h. (g ≡ h → ⊥) × (size h ≤ size g)) l
+-- What the theorems on the listing ask of an order: it has every guess of k negations, each once, and those of larger size first.
+pub record Enumerates (k : ℕ) (l : List ℕ) : Type 0 where
+  pub below : (g : ℕ) → g among l → g < 2 ^ k
+  pub all : (g : ℕ) → g < 2 ^ k → g among l
+  pub once : Distinct l
+  pub larger-first : Pairwise (λ g h. size h ≤ size g) l

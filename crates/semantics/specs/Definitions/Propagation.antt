@@ -16,11 +16,11 @@ pub record Pair : Type 0 where
 
 -- "A rule is sure when its plain and "not not" atoms are in T and its "not" atoms in F"
 abbrev pub sure : Pair → Rule → Bool
-sure x r = r .plain ⊆? x .T && r .doublyNegated ⊆? x .T && r .negated ⊆? x .F
+sure x r = r .plain ⊆? x .T && r .notNots ⊆? x .T && r .nots ⊆? x .F
 
 -- "it is dead when a plain or "not not" atom is in F or a "not" atom in T"
 abbrev pub dead : Pair → Rule → Bool
-dead x r = r .plain meets? x .F || r .doublyNegated meets? x .F || r .negated meets? x .T
+dead x r = r .plain meets? x .F || r .notNots meets? x .F || r .nots meets? x .T
 
 -- "An atom whose sure rule has all other head atoms in F enters T."
 abbrev pub entersT : List Rule → Pair → ℕ → Bool
@@ -41,7 +41,8 @@ unfoldable pub steps : ℕ → List Rule → ℕ → Pair
 steps n p zero = record { T = ∅; F = ∅ }
 steps n p (suc i) = step n p (steps n p i)
 
--- "T and F are the least sets of atoms closed under these rules." Each step but the last adds an atom to one of them.
+-- "T and F are the least sets of atoms closed under these rules." A step that adds nothing is followed only by such, and any other adds an
+-- atom to T or to F: after 2n steps nothing more enters. Theorems/Closure.antt: closed, and least.
 abbrev pub propagated : ℕ → List Rule → Pair
 propagated n p = steps n p (2 * n)
 

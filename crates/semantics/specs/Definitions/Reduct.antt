@@ -36,17 +36,19 @@ module _ (n : ℕ) (holds : Subjective → ℕ → Bool) where
   abbrev pub acted : EpistemicRule → Action → ℕ → Bool
   acted r x a = some (λ m. a ∈? r .mask m && does (sameAction (table m (holds m a)) x)) (K ∷ notK ∷ M ∷ notM ∷ [])
 
+  -- "rule deleted"
   abbrev pub deleted : EpistemicRule → Bool
   deleted r = some (acted r rule-deleted) (upTo n)
 
-  -- "Masks 0 to 3 stay; masks 4 to 7 are acted on by the guess"
+  -- "Masks 0 to 3 stay; masks 4 to 7 are acted on by the guess". A literal that is removed goes nowhere.
   unfoldable pub reductRule : EpistemicRule → Rule
   reductRule r = record {
     head = r .objective .head;
     plain = r .objective .plain ∪ setOf (acted r becomes-a) n;
-    negated = r .objective .negated ∪ setOf (acted r becomes-not-a) n;
-    doublyNegated = r .objective .doublyNegated ∪ setOf (acted r becomes-not-not-a) n;
+    nots = r .objective .nots ∪ setOf (acted r becomes-not-a) n;
+    notNots = r .objective .notNots ∪ setOf (acted r becomes-not-not-a) n;
   }
 
+  -- 000, Definition 5: the epistemic reduct
   unfoldable pub reduct : List EpistemicRule → List Rule
   reduct rs = map reductRule (keep (λ r. not (deleted r)) rs)

@@ -5,28 +5,28 @@ use Prim.Native.Nat.{ℕ}
 pub record Rule : Type 0 where
   pub head : ℕ
   pub plain : ℕ
-  pub negated : ℕ
-  pub doublyNegated : ℕ
+  pub nots : ℕ
+  pub notNots : ℕ
 
--- The literals with K or M (000, 2.1: subjective literals): "K, not K, M, not M".
+-- The literals with K or M (000, Definitions 1 and 2: subjective literals): "K, not K, M, not M".
 pub data Subjective : Type 0 where
   K notK M notM : Subjective
 
--- A rule of the sheet: for each kind of subjective literal the set of its atoms.
+-- A rule of the sheet: masks 0 to 3 as a rule without K and M, and for each kind of subjective literal the set of its atoms.
 pub record EpistemicRule : Type 0 where
   pub objective : Rule
   pub mask : Subjective → ℕ
 
--- "Masks 0 to 7 are: head, plain, not, not not, K, not K, M, not M."
+-- masks 4 to 7
 abbrev pub maskNumber : Subjective → ℕ
 maskNumber K = 4
 maskNumber notK = 5
 maskNumber M = 6
 maskNumber notM = 7
 
--- the rule with these masks, by their numbers
+-- "Masks 0 to 7 are: head, plain, not, not not, K, not K, M, not M."
 abbrev pub ruleOf : (ℕ → ℕ) → EpistemicRule
 ruleOf masks = record {
-  objective = record { head = masks 0; plain = masks 1; negated = masks 2; doublyNegated = masks 3 };
+  objective = record { head = masks 0; plain = masks 1; nots = masks 2; notNots = masks 3 };
   mask = λ m. masks (maskNumber m);
 }

@@ -1,4 +1,5 @@
--- What the rest of document 01 is said of: a number of atoms, the epistemic negations, and a reduct for each guess.
+-- What the rest of document 01 is said of: a number of atoms, the epistemic negations, and for each guess its reduct. A sheet gives one
+-- setting; what is said of every setting holds too where rules are added or left out, or another reduct is taken.
 use Prim.Native.Nat.{ℕ, _^_}
 use mathlib.Core.List.{List}
 use lib.ListN.{length}
@@ -12,7 +13,7 @@ pub record Setting : Type 0 where
   pub negations : List Negation
   pub program : ℕ → List Rule
 
--- of n atoms and the rules of a sheet
+-- of n atoms and the rules of a sheet, whose masks have no bit at or above n
 abbrev pub settingOf : ℕ → List EpistemicRule → Setting
 settingOf n rs =
     let es = negationsOf n rs in

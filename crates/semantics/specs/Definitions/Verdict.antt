@@ -26,8 +26,9 @@ abbrev pub foundHas : (known possible : ℕ) → Negation → Bool
 foundHas known possible (not-known a) = not (a ∈? known)
 foundHas known possible (may-be a) = a ∈? possible
 
-unfoldable pub foundBy : Setting → List ℕ → ℕ
-foundBy s w = setOf (λ j. foundHas (knownIn s w) (possibleIn w) (negation s j)) (k s)
+-- (000: the negations that W satisfies)
+unfoldable pub guessFound : Setting → List ℕ → ℕ
+guessFound s w = setOf (λ j. foundHas (knownIn s w) (possibleIn w) (negation s j)) (k s)
 
 pub data Verdict : Type 0 where
   empty : Verdict
@@ -39,22 +40,23 @@ pub data Verdict : Type 0 where
 abbrev pub judge : Setting → ℕ → List ℕ → Verdict
 judge s g w =
     cond (null w) empty
-    (cond (eqb (foundBy s w) g) (verified (knownIn s w) (possibleIn w) (length w)) (other (foundBy s w)))
+    (cond (not (eqb (guessFound s w) g)) (other (guessFound s w)) (verified (knownIn s w) (possibleIn w) (length w)))
 
 unfoldable pub verdict : Setting → ℕ → Verdict
 verdict s g = judge s g (beliefSets s g)
 
 abbrev pub isEmpty : Verdict → Bool
 isEmpty empty = true
-isEmpty (other f) = false
-isEmpty (verified n p m) = false
+isEmpty (other found) = false
+isEmpty (verified known possible sets) = false
 
 abbrev pub isOther : Verdict → Bool
 isOther empty = false
-isOther (other f) = true
-isOther (verified n p m) = false
+isOther (other found) = true
+isOther (verified known possible sets) = false
 
+-- 000, Definition 5: reduct-verifiable
 abbrev pub isVerified : Verdict → Bool
 isVerified empty = false
-isVerified (other f) = false
-isVerified (verified n p m) = true
+isVerified (other found) = false
+isVerified (verified known possible sets) = true

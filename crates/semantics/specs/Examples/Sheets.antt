@@ -7,7 +7,7 @@ use Rattle.semantics.specs.Definitions.Setting.{Setting, settingOf}
 use Rattle.semantics.specs.Definitions.Listing.{View, Tally}
 
 -- a rule by its masks: head, plain, not, not not, K, not K, M, not M
-abbrev pub rule : (head plain neg negneg K notK M notM : ℕ) → EpistemicRule
+abbrev pub rule : (head plain nots notNots K notK M notM : ℕ) → EpistemicRule
 rule m0 m1 m2 m3 m4 m5 m6 m7 = ruleOf (λ i. getD (m0 ∷ m1 ∷ m2 ∷ m3 ∷ m4 ∷ m5 ∷ m6 ∷ m7 ∷ []) i 0)
 
 abbrev pub view : (guess known possible sets : ℕ) → View

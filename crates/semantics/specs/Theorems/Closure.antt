@@ -17,10 +17,10 @@ use Rattle.semantics.specs.Definitions.Propagation.{Pair, sure, dead, en
 
 -- ---- the sentences, as propositions
 abbrev pub Sure : Pair → Rule → Type 0
-Sure x r = (r .plain ⊆ x .T) × (r .doublyNegated ⊆ x .T) × (r .negated ⊆ x .F)
+Sure x r = (r .plain ⊆ x .T) × (r .notNots ⊆ x .T) × (r .nots ⊆ x .F)
 
 abbrev pub Dead : Pair → Rule → Type 0
-Dead x r = (Meets (r .plain) (x .F) ⊎ Meets (r .doublyNegated) (x .F)) ⊎ Meets (r .negated) (x .T)
+Dead x r = (Meets (r .plain) (x .F) ⊎ Meets (r .notNots) (x .F)) ⊎ Meets (r .nots) (x .T)
 
 -- "all other head atoms in F"
 abbrev pub OthersOut : Pair → Rule → ℕ → Type 0
@@ -46,10 +46,10 @@ pub record Within (x y : Pair) : Type 0 where
 pub dec-sure : (x : Pair) (r : Rule) → Decides (Sure x r) (sure x r)
 dec-sure x r =
     dec-iff (λ q. (q .0 .0, q .0 .1, q .1), λ q. ((q .0, q .1), q .2))
-    (dec-and (dec-and (dec-⊆ (r .plain) (x .T)) (dec-⊆ (r .doublyNegated) (x .T))) (dec-⊆ (r .negated) (x .F)))
+    (dec-and (dec-and (dec-⊆ (r .plain) (x .T)) (dec-⊆ (r .notNots) (x .T))) (dec-⊆ (r .nots) (x .F)))
 
 pub dec-dead : (x : Pair) (r : Rule) → Decides (Dead x r) (dead x r)
-dec-dead x r = dec-or (dec-or (dec-meets (r .plain) (x .F)) (dec-meets (r .doublyNegated) (x .F))) (dec-meets (r .negated) (x .T))
+dec-dead x r = dec-or (dec-or (dec-meets (r .plain) (x .F)) (dec-meets (r .notNots) (x .F))) (dec-meets (r .nots) (x .T))
 
 pub dec-others : (x : Pair) (r : Rule) (a : ℕ) → Decides (OthersOut x r a) (r .head ⊆? single a ∪ x .F)
 dec-others x r a =

@@ -9,12 +9,12 @@ use Rattle.sets.specs.Sets.{_⊆_, _⊂_, Meets}
 use Rattle.sets.specs.Members.{∈-∅, ∅-⊆, dec-⊆, dec-⊂, dec-meets, ⊂-less}
 use Rattle.semantics.specs.Definitions.Rules.{Rule}
 use Rattle.semantics.specs.Definitions.Setting.{Setting}
-use Rattle.semantics.specs.Definitions.Stable.{negationsHold, satisfies, isModel, positive, reducedBy, stable}
+use Rattle.semantics.specs.Definitions.Stable.{negationsHold, satisfies, isModel, positive, reductAt, stable}
 use Rattle.semantics.specs.Definitions.Verdict.{beliefSets}
 
 -- the "not" and "not not" literals of the rule hold in i
 abbrev pub NegationsHold : ℕ → Rule → Type 0
-NegationsHold i r = (Meets (r .negated) i → ⊥) × (r .doublyNegated ⊆ i)
+NegationsHold i r = (Meets (r .nots) i → ⊥) × (r .notNots ⊆ i)
 
 -- if all body literals hold in i, some head atom holds
 abbrev pub Satisfies : ℕ → Rule → Type 0
@@ -24,11 +24,11 @@ abbrev pub Model : List Rule → ℕ → Type 0
 Model p i = (r : Rule) → r among p → Satisfies i r
 
 pub record Stable (p : List Rule) (i : ℕ) : Type 0 where
-  pub model : Model (reducedBy i p) i
-  pub minimal : (j : ℕ) → j ⊂ i → Model (reducedBy i p) j → ⊥
+  pub model : Model (reductAt i p) i
+  pub minimal : (j : ℕ) → j ⊂ i → Model (reductAt i p) j → ⊥
 
 pub dec-negations : (i : ℕ) (r : Rule) → Decides (NegationsHold i r) (negationsHold i r)
-dec-negations i r = dec-and (dec-not (dec-meets (r .negated) i)) (dec-⊆ (r .doublyNegated) i)
+dec-negations i r = dec-and (dec-not (dec-meets (r .nots) i)) (dec-⊆ (r .notNots) i)
 
 pub dec-model : (p : List Rule) (i : ℕ) → Decides (Model p i) (isModel p i)
 dec-model p i =
@@ -38,7 +38,7 @@ dec-model p i =
 pub dec-stable : (p : List Rule) (i : ℕ) → Decides (Stable p i) (stable p i)
 unfolding stable
 dec-stable p i =
-    let q = reducedBy i p in
+    let q = reductAt i p in
     dec-iff (
       λ h. record { model = h .0; minimal = λ j s m. h .1 (j, ⊂-less s, (s, m)) },
       λ st. (st .model, λ h. st .minimal (h .0) (h .2 .0) (h .2 .1)),
@@ -58,8 +58,8 @@ belief-sets s g {i} =
 abbrev pub ReducedModel : List Rule → (i j : ℕ) → Type 0
 ReducedModel p i j = (r : Rule) → r among p → NegationsHold i r → r .plain ⊆ j → Meets (r .head) j
 
-pub reduced-model : (p : List Rule) (i j : ℕ) → Model (reducedBy i p) j ↔ ReducedModel p i j
-unfolding reducedBy
+pub reduced-model : (p : List Rule) (i j : ℕ) → Model (reductAt i p) j ↔ ReducedModel p i j
+unfolding reductAt
 reduced-model p i j = (
   λ f r m n b. f (positive r) (among-map positive (keep (negationsHold i) p) .1 (r, among-keep (negationsHold i) p .1 (m, is-true (dec-negations i r) n), refl))
       (b, ((λ x. ∈-∅ (x .left)), ∅-⊆)),

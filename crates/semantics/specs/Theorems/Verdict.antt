@@ -12,7 +12,7 @@ use Rattle.sets.specs.Sets.{_∈_, _∈?_, ⋂, ⋃, setOf}
 use Rattle.sets.specs.Members.{dec-∈, ∈-below, ∈-ext, ∈-⋂, ∈-⋃, ∈-setOf, setOf-below}
 use Rattle.semantics.specs.Definitions.Guesses.{Negation, not-known, may-be}
 use Rattle.semantics.specs.Definitions.Setting.{Setting, k, negation}
-use Rattle.semantics.specs.Definitions.Verdict.{beliefSets, knownIn, possibleIn, foundHas, foundBy, Verdict, empty, other, verified, judge, verdict, isEmpty, isOther, isVerified}
+use Rattle.semantics.specs.Definitions.Verdict.{beliefSets, knownIn, possibleIn, foundHas, guessFound, Verdict, empty, other, verified, judge, verdict, isEmpty, isOther, isVerified}
 use Rattle.semantics.specs.Theorems.Stable.{belief-sets}
 
 -- Definition 1: the negation is satisfied by W.
@@ -44,27 +44,27 @@ module _ (s : Setting) (w : List ℕ) (within : (i : ℕ) → i among w → i < 
   dec-satisfied (may-be a) = dec-iff (∈-⋃ a w) (dec-∈ a (possibleIn w))
 
   -- the guess found has exactly the negations that W satisfies
-  pub found-exact : (j : ℕ) → j < k s → (j ∈ foundBy s w) ↔ Satisfied w (negation s j)
-  unfolding foundBy
+  pub found-exact : (j : ℕ) → j < k s → (j ∈ guessFound s w) ↔ Satisfied w (negation s j)
+  unfolding guessFound
   found-exact j l =
       let d = dec-satisfied (negation s j) in
       (λ m. d .yes (∈-setOf _ j (k s) .0 m .1), λ p. ∈-setOf _ j (k s) .1 (l, is-true d p))
 
-pub found-below : (s : Setting) (w : List ℕ) → foundBy s w < 2 ^ k s
-unfolding foundBy
+pub found-below : (s : Setting) (w : List ℕ) → guessFound s w < 2 ^ k s
+unfolding guessFound
 found-below s w = setOf-below _ (k s)
 
 -- ---- the three verdicts, by whether W is empty and whether the guess found is the one given
 module _ (s : Setting) (w : List ℕ) where
   abbrev judged : (none same : Bool) → Verdict
-  judged none same = cond none empty (cond same (verified (knownIn s w) (possibleIn w) (length w)) (other (foundBy s w)))
+  judged none same = cond none empty (cond (not same) (other (guessFound s w)) (verified (knownIn s w) (possibleIn w) (length w)))
 
   tests : (none same : Bool) → (isEmpty (judged none same) ≡ none) × (isVerified (judged none same) ≡ not none && same) × (isOther (judged none same) ≡ not none && not same)
   tests true same = (refl, refl, refl)
   tests false true = (refl, refl, refl)
   tests false false = (refl, refl, refl)
 
-  says : (none same : Bool) → (isVerified (judged none same) ≡ true → judged none same ≡ verified (knownIn s w) (possibleIn w) (length w)) × (isOther (judged none same) ≡ true → judged none same ≡ other (foundBy s w))
+  says : (none same : Bool) → (isVerified (judged none same) ≡ true → judged none same ≡ verified (knownIn s w) (possibleIn w) (length w)) × (isOther (judged none same) ≡ true → judged none same ≡ other (guessFound s w))
   says true same = ((λ e. absurd (true≢false (sym e))), λ e. absurd (true≢false (sym e)))
   says false true = ((λ e. refl), λ e. absurd (true≢false (sym e)))
   says false false = ((λ e. absurd (true≢false (sym e))), λ e. refl)
@@ -78,34 +78,34 @@ module _ (s : Setting) (g : ℕ) where
   unfolding verdict
   dec-verifiable l =
       let w = beliefSets s g in
-      rw (tests s w (null w) (eqb (foundBy s w) g) .1)
+      rw (tests s w (null w) (eqb (guessFound s w) g) .1)
       (dec-iff (
         λ p. record { non-empty = p .0; exact = λ j h. subst (λ x. (j ∈ x) ↔ Satisfied w (negation s j)) (p .1) (found-exact s w within (p .0) j h) },
-        λ v. (v .non-empty, ∈-ext (foundBy s w) g (λ j. (
+        λ v. (v .non-empty, ∈-ext (guessFound s w) g (λ j. (
           λ m. let h = ∈-below (found-below s w) m in v .exact j h .1 (found-exact s w within (v .non-empty) j h .0 m),
           λ m. let h = ∈-below l m in found-exact s w within (v .non-empty) j h .1 (v .exact j h .0 m),
         ))),
-      ) (dec-and (dec-member w) (dec-eq (foundBy s w) g)))
+      ) (dec-and (dec-member w) (dec-eq (guessFound s w) g)))
 
   -- and then it says what is known, what is possible, and how many belief sets there are
   pub verified-verdict : isVerified (verdict s g) ≡ true → verdict s g ≡ verified (knownIn s (beliefSets s g)) (possibleIn (beliefSets s g)) (length (beliefSets s g))
   unfolding verdict
-  verified-verdict = says s (beliefSets s g) (null (beliefSets s g)) (eqb (foundBy s (beliefSets s g)) g) .0
+  verified-verdict = says s (beliefSets s g) (null (beliefSets s g)) (eqb (guessFound s (beliefSets s g)) g) .0
 
   -- 'empty' exactly when no set is stable
   pub dec-empty : Decides ((i : ℕ) × (i among beliefSets s g) → ⊥) (isEmpty (verdict s g))
   unfolding verdict
   dec-empty =
       let w = beliefSets s g in
-      rw (tests s w (null w) (eqb (foundBy s w) g) .0) (subst (Decides _) (Bool·not-not (null w)) (dec-not (dec-member w)))
+      rw (tests s w (null w) (eqb (guessFound s w) g) .0) (subst (Decides _) (Bool·not-not (null w)) (dec-not (dec-member w)))
 
   -- 'other' exactly when some set is and the guess found is another; it is said
-  pub dec-other : Decides (((i : ℕ) × (i among beliefSets s g)) × (foundBy s (beliefSets s g) ≡ g → ⊥)) (isOther (verdict s g))
+  pub dec-other : Decides (((i : ℕ) × (i among beliefSets s g)) × (guessFound s (beliefSets s g) ≡ g → ⊥)) (isOther (verdict s g))
   unfolding verdict
   dec-other =
       let w = beliefSets s g in
-      rw (tests s w (null w) (eqb (foundBy s w) g) .2) (dec-and (dec-member w) (dec-not (dec-eq (foundBy s w) g)))
+      rw (tests s w (null w) (eqb (guessFound s w) g) .2) (dec-and (dec-member w) (dec-not (dec-eq (guessFound s w) g)))
 
-  pub other-verdict : isOther (verdict s g) ≡ true → verdict s g ≡ other (foundBy s (beliefSets s g))
+  pub other-verdict : isOther (verdict s g) ≡ true → verdict s g ≡ other (guessFound s (beliefSets s g))
   unfolding verdict
-  other-verdict = says s (beliefSets s g) (null (beliefSets s g)) (eqb (foundBy s (beliefSets s g)) g) .1
+  other-verdict = says s (beliefSets s g) (null (beliefSets s g)) (eqb (guessFound s (beliefSets s g)) g) .1

@@ -1,0 +1,1 @@
+-- The six numbers. Assumes nothing.

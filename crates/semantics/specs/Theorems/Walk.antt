@@ -1,0 +1,1 @@
+-- The walk gives the list. Assumes nothing.
