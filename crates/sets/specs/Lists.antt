@@ -194,11 +194,9 @@ module _ {A : Type 0} where
   pairwise-append R (x ∷ l) m p q h =
       (λ y k. ⊎-elim (p .0 y) (h x y here) (among-append l .0 k), pairwise-append R l m (p .1) q (λ z y k. h z y (later k)))
 
-  -- of two parts of a list, each member of the first stands before each of the second
-  pub pairwise-split : (R : A → A → Type 0) (l m : List A) → Pairwise R (l ++ m) → (x y : A) → x among l → y among m → R x y
-  pairwise-split R [] m p x y h k = absurd (nowhere h)
-  pairwise-split R (z ∷ l) m p x y h k =
-      ⊎-elim (λ e. subst (λ w. R w y) (sym e) (p .0 y (among-append l .1 (inr k)))) (λ q. pairwise-split R l m (p .1) x y q k) (first-or-later h)
+  pub pairwise-suffix : (R : A → A → Type 0) (l m : List A) → Pairwise R (l ++ m) → Pairwise R m
+  pairwise-suffix R [] m p = p
+  pairwise-suffix R (x ∷ l) m p = pairwise-suffix R l m (p .1)
 
   pub pairwise-keep : (R : A → A → Type 0) (f : A → Bool) (l : List A) → Pairwise R l → Pairwise R (keep f l)
   unfolding keep
