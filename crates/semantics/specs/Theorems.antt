@@ -7,3 +7,5 @@ pub mod WorldView
 pub mod Order
 pub mod Tally
 pub mod Walk
+pub mod Listing
+pub mod Query

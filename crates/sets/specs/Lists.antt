@@ -132,6 +132,10 @@ module _ {A : Type 0} where
           λ q. ⊎-elim (λ e. inl (subst P e (q .2))) (λ m. inr (q .0, m, q .2)) (first-or-later (q .1)),
         ) (dec-or (d y here) (dec-some P l (λ x m. d x (later m))))
 
+  pub no-members : (l : List A) → (l ≡ []) ↔ ((x : A) → x among l → ⊥)
+  no-members [] = ((λ _ x m. nowhere m), λ _. refl)
+  no-members (y ∷ l) = ((λ e x m. nowhere (subst (λ z. x among z) e m)), λ f. absurd (f y here))
+
   pub dec-member : (l : List A) → Decides ((x : A) × (x among l)) (not (null l))
   dec-member [] = dec-false (λ p. nowhere (p .1))
   dec-member (x ∷ l) = dec-true (x, here)
@@ -197,6 +201,11 @@ module _ {A : Type 0} where
   pub pairwise-suffix : (R : A → A → Type 0) (l m : List A) → Pairwise R (l ++ m) → Pairwise R m
   pairwise-suffix R [] m p = p
   pairwise-suffix R (x ∷ l) m p = pairwise-suffix R l m (p .1)
+
+  pub pairwise-mapped : {B : Type 0} (R : B → B → Type 0) (f : A → B) (l : List A) → Pairwise (λ x y. R (f x) (f y)) l → Pairwise R (map f l)
+  pairwise-mapped R f [] p = tt
+  pairwise-mapped R f (x ∷ l) p =
+      (λ y m. let (z, n, e) = among-map f l .0 m in subst (R (f x)) (sym e) (p .0 z n), pairwise-mapped R f l (p .1))
 
   pub pairwise-keep : (R : A → A → Type 0) (f : A → Bool) (l : List A) → Pairwise R l → Pairwise R (keep f l)
   unfolding keep

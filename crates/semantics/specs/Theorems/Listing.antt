@@ -1,0 +1,71 @@
+-- The list of views: one for each world view and no other, larger guesses first; none exactly when no guess is verified. Assumes nothing.
+use Prim.Native.Nat.{ℕ, _^_, _≤_, _<_}
+use mathlib.Core.Path.{_≡_, refl, sym, ap, _∙_, subst}
+use mathlib.Core.Bool.{Bool}
+use mathlib.Core.List.{List, [], map}
+use mathlib.Core.Logic.{_↔_}
+use lib.ListN.{length, length-map}
+use Rattle.sets.specs.Decides.{Decides, is-true}
+use Rattle.sets.specs.Lists.{_among_, keep, among-keep, among-map, no-members, Pairwise, pairwise-keep, pairwise-mapped}
+use Rattle.sets.specs.Sets.{size}
+use Rattle.semantics.specs.Definitions.Setting.{Setting, k}
+use Rattle.semantics.specs.Definitions.Verdict.{verified, verdict}
+use Rattle.semantics.specs.Definitions.Order.{order, Before, Enumerates}
+use Rattle.semantics.specs.Definitions.Listing.{isWorldView, tallyOf, View, viewOf, viewsAlong, listing}
+use Rattle.semantics.specs.Walk.{walk}
+use Rattle.semantics.specs.Theorems.Verdict.{Verifiable, dec-verifiable, verified-verdict}
+use Rattle.semantics.specs.Theorems.WorldView.{WorldView, definition-6, maximal-superset}
+use Rattle.semantics.specs.Theorems.Order.{order-sorted}
+use Rattle.semantics.specs.Theorems.Walk.{count-along, walk-is}
+
+module _ (s : Setting) where
+  -- "Known, possible and number of sets are those of the verdict on that guess"
+  pub view-verdict : (g : ℕ) → g < 2 ^ k s → WorldView s g → verdict s g ≡ verified (viewOf s g .known) (viewOf s g .possible) (viewOf s g .sets)
+  view-verdict g l w = verified-verdict s g (is-true (dec-verifiable s g l) (w .verifiable))
+
+  -- in the order itself: size falling, then number rising
+  pub listing-sorted : Pairwise (λ v w. Before (v .guess) (w .guess)) (listing s)
+  unfolding viewsAlong
+  listing-sorted = pairwise-mapped _ (viewOf s) (keep (isWorldView s) (order (k s))) (pairwise-keep _ _ (order (k s)) (order-sorted (k s)))
+
+  module _ (l : List ℕ) (en : Enumerates (k s) l) where
+    -- one for each world view and no other
+    pub among-views : {v : View} → v among viewsAlong s l ↔ ((g : ℕ) × (g < 2 ^ k s) × WorldView s g × (v ≡ viewOf s g))
+    unfolding viewsAlong
+    among-views = (
+      λ m. let (g, n, e) = among-map (viewOf s) (keep (isWorldView s) l) .0 m in
+          let (a, w) = among-keep (isWorldView s) l .0 n in
+          let h = en .below g a in (g, h, definition-6 s g h .yes w, e),
+      λ p. let (g, h, w, e) = p in
+          among-map (viewOf s) (keep (isWorldView s) l) .1 (g, among-keep (isWorldView s) l .1 (en .all g h, is-true (definition-6 s g h) w), e),
+    )
+
+    -- no guess gets a second one
+    pub views-once : Pairwise (λ v w. v .guess ≡ w .guess → ⊥) (viewsAlong s l)
+    unfolding viewsAlong
+    views-once = pairwise-mapped _ (viewOf s) (keep (isWorldView s) l) (pairwise-keep _ _ l (en .once))
+
+    -- larger guesses first
+    pub views-falling : Pairwise (λ v w. size (w .guess) ≤ size (v .guess)) (viewsAlong s l)
+    unfolding viewsAlong
+    views-falling = pairwise-mapped _ (viewOf s) (keep (isWorldView s) l) (pairwise-keep _ _ l (en .larger-first))
+
+    -- none exactly when no guess is reduct-verifiable
+    pub views-none : (viewsAlong s l ≡ []) ↔ ((g : ℕ) → g < 2 ^ k s → Verifiable s g → ⊥)
+    views-none = (
+      λ e g h v. let (x, lx, _, w) = maximal-superset s g h v in no-members (viewsAlong s l) .0 e (viewOf s x) (among-views .1 (x, lx, w, refl)),
+      λ f. no-members (viewsAlong s l) .1 (λ v m. let (g, h, w, _) = among-views .0 m in f g h (w .verifiable)),
+    )
+
+    -- as many as the tally says
+    pub views-long : length (viewsAlong s l) ≡ tallyOf s .views
+    unfolding viewsAlong tallyOf
+    views-long = length-map (keep (isWorldView s) l) (viewOf s) ∙ count-along s l en (isWorldView s)
+
+    -- and the walk finds them
+    pub walk-views : map (viewOf s) (walk s l .met) ≡ viewsAlong s l
+    unfolding viewsAlong
+    walk-views = ap (λ x. map (viewOf s) (x .met)) (walk-is s l en)
+
+    pub walk-tally : walk s l .tally ≡ tallyOf s
+    walk-tally = ap (λ x. x .tally) (walk-is s l en)
