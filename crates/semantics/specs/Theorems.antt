@@ -1,4 +1,6 @@
--- For any setting.
+-- The papers' reading of the definitions. From Stable on, for any setting.
+pub mod Negations
+pub mod Reduct
 pub mod Stable
 pub mod Verdict
 pub mod Closure

@@ -69,12 +69,15 @@ module _ (n : ℕ) (p : List Rule) (i : ℕ) (l : i < 2 ^ n) (st : Stable p i) w
         let (holds, body) = sure-holds r s in
         let x = model r m holds body in
         ⊎-elim (λ z. subst (λ b. b ∈ i) z (x .right)) (λ z. absurd (∈-outside (x .common) .0 (others (x .common) (x .left) z) .1 (x .right))) (decided (dec-eq (x .common) a));
-    has-F = λ {a} h f. ∈-outside a .1 (h, λ u.
-        st .minimal (less a) (less-⊂ a u) (reduced-model p i (less a) .1 (λ r m holds body.
-        let whole = ⊆-trans body (less-⊂ a u .within) in
-        let x = model r m holds whole in
-        ⊎-elim (λ z. absurd (dead-fails r (f r m (subst (λ b. b ∈ r .head) z (x .left))) holds whole))
-        (λ z. record { common = x .common; left = x .left; right = ∈-less a (x .common) .1 (x .right, z) }) (decided (dec-eq (x .common) a)))));
+    has-F = λ {a} h f. ∈-outside a .1 (
+      h,
+      λ u.
+          st .minimal (less a) (less-⊂ a u) (reduced-model p i (less a) .1 (λ r m holds body.
+          let whole = ⊆-trans body (less-⊂ a u .within) in
+          let x = model r m holds whole in
+          ⊎-elim (λ z. absurd (dead-fails r (f r m (subst (λ b. b ∈ r .head) z (x .left))) holds whole))
+          (λ z. record { common = x .common; left = x .left; right = ∈-less a (x .common) .1 (x .right, z) }) (decided (dec-eq (x .common) a)))),
+    );
   }
 
   pub stable-T : propagated n p .T ⊆ i
@@ -120,7 +123,7 @@ module _ (s : Setting) (g : ℕ) where
   no-empty-head : {i : ℕ} → i among beliefSets s g → EmptyHead (s .program g) pairOf → ⊥
   no-empty-head {i} m (r, n, (sr, e)) =
       let x = reduced-model (s .program g) i i .0 (belief-sets s g .0 m .1 .model) r n
-          ((λ y. believed-F m (sr .2 .into (y .left)) (y .right)), ⊆-trans (sr .1) (believed-T m)) (⊆-trans (sr .0) (believed-T m)) in
+      ((λ y. believed-F m (sr .2 .into (y .left)) (y .right)), ⊆-trans (sr .1) (believed-T m)) (⊆-trans (sr .0) (believed-T m)) in
       ∈-∅ (subst (λ z. x .common ∈ z) e (x .left))
 
   no-clash : (j : ℕ) (e : Negation) → (i : ℕ) × (i among beliefSets s g) → (j ∈ g) ↔ Satisfied (beliefSets s g) e → Clash j g e pairOf → ⊥

@@ -81,10 +81,13 @@ module _ (s : Setting) (g : ℕ) where
       rw (tests s w (null w) (eqb (guessFound s w) g) .1)
       (dec-iff (
         λ p. record { non-empty = p .0; exact = λ j h. subst (λ x. (j ∈ x) ↔ Satisfied w (negation s j)) (p .1) (found-exact s w within (p .0) j h) },
-        λ v. (v .non-empty, ∈-ext (guessFound s w) g (λ j. (
-          λ m. let h = ∈-below (found-below s w) m in v .exact j h .1 (found-exact s w within (v .non-empty) j h .0 m),
-          λ m. let h = ∈-below l m in found-exact s w within (v .non-empty) j h .1 (v .exact j h .0 m),
-        ))),
+        λ v. (
+          v .non-empty,
+          ∈-ext (guessFound s w) g (λ j. (
+            λ m. let h = ∈-below (found-below s w) m in v .exact j h .1 (found-exact s w within (v .non-empty) j h .0 m),
+            λ m. let h = ∈-below l m in found-exact s w within (v .non-empty) j h .1 (v .exact j h .0 m),
+          )),
+        ),
       ) (dec-and (dec-member w) (dec-eq (guessFound s w) g)))
 
   -- and then it says what is known, what is possible, and how many belief sets there are
