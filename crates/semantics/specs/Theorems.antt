@@ -6,6 +6,7 @@ pub mod Verdict
 pub mod Closure
 pub mod Contradicted
 pub mod WorldView
+pub mod ModalReduct
 pub mod Order
 pub mod Tally
 pub mod Walk

@@ -1,7 +1,7 @@
 -- Lists as collections: membership, tests over the members, the members that pass a test, the numbers below n. Assumes nothing.
-use Prim.Native.Nat.{ℕ, zero, suc, _+_, _≤_, _<_, zero-le, suc-le-suc}
+use Prim.Native.Nat.{ℕ, zero, suc, _+_, _≤_, _<_, zero-le}
 use mathlib.Core.Path.{_≡_, refl, sym, ap, ap₂, _∙_, subst}
-use mathlib.Core.Bool.{Bool, true, false, not, _&&_, _||_, cond, true≢false, and-assoc, or-assoc}
+use mathlib.Core.Bool.{Bool, true, false, not, _&&_, _||_, cond, true≢false}
 use mathlib.Core.List.{List, [], _∷_, _++_, append-nil, append-assoc, map, List·Memᴰ, List·Memᴰ·head, List·Memᴰ·tail, List·Memᴰ·not-nil, List·Memᴰ·cases-cons, List·Memᴰ·append-cases, List·Memᴰ·eq-of-singleton, Memᴰ·append-left, Memᴰ·append-right}
 use mathlib.Core.Logic.{_↔_, _⊎_, inl, inr, ⊎-elim}
 use native.Mathlib.Omega.{arith}
@@ -131,6 +131,23 @@ module _ {A : Type 0} where
           ⊎-elim (λ p. (y, here, p)) (λ q. (q .0, later (q .1), q .2)),
           λ q. ⊎-elim (λ e. inl (subst P e (q .2))) (λ m. inr (q .0, m, q .2)) (first-or-later (q .1)),
         ) (dec-or (d y here) (dec-some P l (λ x m. d x (later m))))
+
+  -- tests that agree on the members
+  pub some-same : (f h : A → Bool) (l : List A) → ((x : A) → x among l → f x ≡ h x) → some f l ≡ some h l
+  unfolding some
+  some-same f h [] e = refl
+  some-same f h (x ∷ l) e = ap₂ _||_ (e x here) (some-same f h l (λ y m. e y (later m)))
+
+  pub map-keep-same : {B : Type 0} (p q : A → Bool) (f h : A → B) (l : List A) → ((x : A) → x among l → (p x ≡ q x) × (f x ≡ h x)) → map f (keep p l) ≡ map h (keep q l)
+  unfolding keep
+  map-keep-same p q f h [] e = refl
+  map-keep-same p q f h (x ∷ l) e = go (p x) (q x) (e x here .0) (map-keep-same p q f h l (λ y m. e y (later m)))
+    where
+      go : (a b : Bool) → a ≡ b → map f (keep p l) ≡ map h (keep q l) → map f (cond a (x ∷ keep p l) (keep p l)) ≡ map h (cond b (x ∷ keep q l) (keep q l))
+      go true true z ih = ap₂ _∷_ (e x here .1) ih
+      go true false z ih = absurd (true≢false z)
+      go false true z ih = absurd (true≢false (sym z))
+      go false false z ih = ih
 
   pub no-members : (l : List A) → (l ≡ []) ↔ ((x : A) → x among l → ⊥)
   no-members [] = ((λ _ x m. nowhere m), λ _. refl)

@@ -1,14 +1,14 @@
 -- The members of each set that is made of others, and what the tests decide. Here the laws of bits end. Assumes nothing.
-use Prim.Native.Nat.{ℕ, zero, suc, _+_, _-_, _*_, _/_, _%_, _^_, _≤_, _<_, min, max}
+use Prim.Native.Nat.{ℕ, zero, suc, _+_, _-_, _/_, _%_, _^_, _≤_, _<_, min, max}
 use mathlib.Core.Path.{_≡_, refl, sym, ap, _∙_, subst}
-use mathlib.Core.Bool.{Bool, true, false, not, cond, true≢false}
+use mathlib.Core.Bool.{Bool, true, false, cond, true≢false}
 use mathlib.Core.List.{List, [], _∷_, foldl}
 use mathlib.Core.Logic.{_↔_, _⊎_, inl, inr, ⊎-elim}
 use native.Mathlib.Omega.{arith}
-use native.Mathlib.Nat.{zero-div, div-eq-of-lt, eq-zero-or-pos, one-mul, pow-suc, mod-eq-of-lt, eq-or-lt-of-le, le-of-suc-le-suc, not-suc-le-zero, lt-of-lt-of-le, lt-of-not-le}
-use lib.Arith.{bin-ind, lt-one}
-use lib.Bits.{bitAnd, bitOr, and-step, and-shr, or-step, or-shr, and-le-r, and-mask, or-shifted}
-use lib.Pow.{shr-shr, shr-lt, shl-shr, pow-add, pow-mono, pow-lt, pow-pos}
+use native.Mathlib.Nat.{zero-div, div-eq-of-lt, eq-zero-or-pos, one-mul, pow-suc, eq-or-lt-of-le, le-of-suc-le-suc, not-suc-le-zero, lt-of-lt-of-le, lt-of-not-le}
+use lib.Arith.{bin-ind}
+use lib.Bits.{and-step, and-shr, or-step, or-shr, and-le-r, or-shifted}
+use lib.Pow.{shr-shr, shl-shr, pow-add, pow-mono, pow-lt, pow-pos}
 use Rattle.sets.specs.Decides.{Decides, decided, dec-iff, dec-not, dec-and, dec-eq}
 use Rattle.sets.specs.Lists.{_among_, here, later, nowhere, first-or-later}
 use Rattle.sets.specs.Sets.{_∈_, _⊆_, _⊂_, Meets, _∈?_, _⊆?_, _⊂?_, _meets?_, _∩_, _∪_, ∅, full, single, setOf, ⋂, ⋃}
@@ -163,6 +163,12 @@ module _ (f : ℕ → Bool) where
         λ m. ⊎-elim (λ q. let (b, e) = one .0 q in (omega arith, ap f e ∙ b)) (λ q. let (l, b) = ih .0 q in (omega arith, b)) (∈-∪ a _ _ .0 m),
         λ p. ∈-∪ a _ _ .1 (⊎-elim (λ e. inl (one .1 (ap f (sym e) ∙ p .1, e))) (λ l. inr (ih .1 (l, p .1))) (eq-or-lt-of-le (le-of-suc-le-suc (p .0)))),
       )
+
+pub setOf-same : (f h : ℕ → Bool) (n : ℕ) → ((a : ℕ) → a < n → f a ≡ h a) → setOf f n ≡ setOf h n
+setOf-same f h n e = ∈-ext (setOf f n) (setOf h n) (λ a. (
+  λ m. let (l, t) = ∈-setOf f a n .0 m in ∈-setOf h a n .1 (l, sym (e a l) ∙ t),
+  λ m. let (l, t) = ∈-setOf h a n .0 m in ∈-setOf f a n .1 (l, e a l ∙ t),
+))
 
 -- ---- all numbers below n, and the intersection and the union of many sets
 all-below : (n : ℕ) → setOf (λ _. true) n ≡ full n

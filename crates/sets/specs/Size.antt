@@ -1,16 +1,16 @@
 -- The size of a set: how many members it has. A proper subset is smaller. Assumes nothing.
-use Prim.Native.Nat.{ℕ, zero, suc, _+_, _*_, _/_, _%_, _^_, _≤_, _<_}
+use Prim.Native.Nat.{ℕ, zero, suc, _/_, _%_, _^_, _≤_, _<_}
 use mathlib.Core.Path.{_≡_, refl, sym, ap, _∙_, subst}
 use mathlib.Core.Bool.{Bool, true, false}
-use mathlib.Core.List.{List, [], _∷_, _++_}
-use mathlib.Core.Logic.{_↔_, _⊎_, ⊎-elim}
+use mathlib.Core.List.{List, _∷_}
+use mathlib.Core.Logic.{_↔_, ⊎-elim}
 use native.Mathlib.Omega.{arith}
 use native.Mathlib.Nat.{mod-eq-of-lt, mod-one, mod-lt, pow-suc, lt-of-not-le, lt-of-le-of-lt}
 use lib.Count.{ones, ones-cat, ones-le, onesIn}
 use lib.ListN.{length, length-append}
 use lib.Pow.{mod-pow-add, pow-pos}
-use Rattle.sets.specs.Decides.{decided, is-true, is-false, dec-eq}
-use Rattle.sets.specs.Lists.{_among_, keep, keep-snoc, among-keep, only, upTo, among-upTo, upTo-rising, Pairwise, Distinct, first-or-later, pairwise-map, pairwise-keep, no-longer}
+use Rattle.sets.specs.Decides.{decided, is-true, dec-eq}
+use Rattle.sets.specs.Lists.{_among_, keep, keep-snoc, among-keep, only, upTo, among-upTo, upTo-rising, Distinct, first-or-later, pairwise-map, pairwise-keep, no-longer}
 use Rattle.sets.specs.Sets.{_∈_, _⊆_, _⊂_, _∈?_, size}
 use Rattle.sets.specs.Members.{dec-∈, ∈-below, ⊆-antisym, ⊆-le}
 

@@ -1,6 +1,6 @@
 -- The definitions, computed on the known sheets.
 use mathlib.Core.Path.{_≡_, refl}
-use mathlib.Core.List.{List, [], _∷_, map}
+use mathlib.Core.List.{map}
 use native.Mathlib.Decide.{ℕ-discrete}
 use lib.Count.{ones, onesIn}
 use Rattle.sets.specs.Lists.{every, some, keep, flat, upTo, downFrom}
@@ -11,7 +11,7 @@ use Rattle.semantics.specs.Definitions.Stable.{reductAt, stable}
 use Rattle.semantics.specs.Definitions.Verdict.{beliefSets, guessFound, verdict}
 use Rattle.semantics.specs.Definitions.Propagation.{steps, contradicted}
 use Rattle.semantics.specs.Definitions.Order.{order}
-use Rattle.semantics.specs.Definitions.Listing.{View, Tally, isWorldView, covered, tallyOf, viewsAlong, listing}
+use Rattle.semantics.specs.Definitions.Listing.{isWorldView, covered, tallyOf, viewsAlong, listing}
 use Rattle.semantics.specs.Examples.Sheets.{Listed, ten}
 
 -- a setting's list by the definitions

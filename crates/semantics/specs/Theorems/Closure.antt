@@ -1,15 +1,14 @@
 -- "T and F are the least sets of atoms closed under these rules": the pair that the steps reach is closed, and within every closed pair.
 -- Assumes nothing.
 use Prim.Native.Nat.{ℕ, zero, suc, _+_, _*_, _^_, _≤_, _<_, zero-le}
-use mathlib.Core.Path.{_≡_, refl, sym, ap, _∙_, subst}
-use mathlib.Core.Bool.{Bool, _||_}
+use mathlib.Core.Path.{_≡_, sym, ap, subst}
 use mathlib.Core.List.{List}
 use mathlib.Core.Logic.{_↔_, _⊎_, inl, inr, ⊎-elim}
 use native.Mathlib.Omega.{arith}
 use lib.Pow.{pow-pos}
 use Rattle.sets.specs.Decides.{Decides, is-true, decided, dec-iff, dec-and, dec-or, dec-imp, dec-eq}
 use Rattle.sets.specs.Lists.{_among_, dec-every, dec-some}
-use Rattle.sets.specs.Sets.{_∈_, _⊆_, Meets, _∈?_, _⊆?_, _∪_, single, size}
+use Rattle.sets.specs.Sets.{_∈_, _⊆_, Meets, _⊆?_, _∪_, single, size}
 use Rattle.sets.specs.Members.{dec-∈, ∈-below, ∈-∪, ⊆-trans, ⊆-antisym, ∅-⊆, dec-⊆, dec-meets, meets-⊆, ∈-single, setOf-below, ∈-setOf}
 use Rattle.sets.specs.Size.{size-below, size-⊆, size-⊂}
 use Rattle.semantics.specs.Definitions.Rules.{Rule}

@@ -1,11 +1,10 @@
 -- The list of views: one for each world view and no other, larger guesses first; none exactly when no guess is verified. Assumes nothing.
 use Prim.Native.Nat.{ℕ, _^_, _≤_, _<_}
-use mathlib.Core.Path.{_≡_, refl, sym, ap, _∙_, subst}
-use mathlib.Core.Bool.{Bool}
+use mathlib.Core.Path.{_≡_, refl, ap, _∙_}
 use mathlib.Core.List.{List, [], map}
 use mathlib.Core.Logic.{_↔_}
 use lib.ListN.{length, length-map}
-use Rattle.sets.specs.Decides.{Decides, is-true}
+use Rattle.sets.specs.Decides.{is-true}
 use Rattle.sets.specs.Lists.{_among_, keep, among-keep, among-map, no-members, Pairwise, pairwise-keep, pairwise-mapped}
 use Rattle.sets.specs.Sets.{size}
 use Rattle.semantics.specs.Definitions.Setting.{Setting, k}

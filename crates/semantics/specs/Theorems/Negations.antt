@@ -1,14 +1,14 @@
 -- 000, Definition 3: the epistemic negations are those of the literals that appear, each with one number. Assumes nothing.
 use Prim.Native.Nat.{ℕ, _<_}
-use mathlib.Core.Path.{_≡_, refl, sym, ap, _∙_, subst}
+use mathlib.Core.Path.{_≡_, refl, sym, ap, subst}
 use mathlib.Core.Bool.{Bool, true, false}
-use mathlib.Core.List.{List, [], _∷_}
+use mathlib.Core.List.{List}
 use mathlib.Core.Logic.{_↔_, _⊎_, inl, inr, ⊎-elim}
 use native.Mathlib.Omega.{arith}
 use native.Mathlib.Decide.{ℕ-discrete}
 use lib.ListN.{length}
 use Rattle.sets.specs.Decides.{Decides, is-true, dec-and, dec-or, dec-does}
-use Rattle.sets.specs.Lists.{_among_, here, nowhere, among-append, among-only, among-flat, only, upTo, among-upTo, upTo-rising, dec-some, dec-any, Distinct, Pairwise, pairwise-append, pairwise-flat}
+use Rattle.sets.specs.Lists.{_among_, nowhere, among-append, among-only, among-flat, only, upTo, among-upTo, upTo-rising, dec-some, dec-any, Distinct, pairwise-append, pairwise-flat}
 use Rattle.sets.specs.Sets.{_∈_}
 use Rattle.sets.specs.Members.{dec-∈}
 use Rattle.semantics.specs.Definitions.Rules.{EpistemicRule, Subjective, K, notK, M, notM}

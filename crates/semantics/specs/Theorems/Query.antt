@@ -1,9 +1,9 @@
 -- The query, read over the world views and their belief sets. Assumes nothing.
 use Prim.Native.Nat.{ℕ, _^_, _<_}
-use mathlib.Core.Path.{_≡_, refl, sym, ap, subst}
-use mathlib.Core.Bool.{Bool, true, false, not, cond}
-use mathlib.Core.Logic.{_↔_, _⊎_, inl, inr, ⊎-elim}
-use Rattle.sets.specs.Decides.{Decides, is-true, is-false, decided, dec-iff, dec-not}
+use mathlib.Core.Path.{_≡_, refl, sym, subst}
+use mathlib.Core.Bool.{Bool, not}
+use mathlib.Core.Logic.{_↔_}
+use Rattle.sets.specs.Decides.{Decides, is-true, is-false, dec-iff, dec-not}
 use Rattle.sets.specs.Lists.{_among_, every, dec-every}
 use Rattle.sets.specs.Sets.{_∈_, _∈?_}
 use Rattle.sets.specs.Members.{dec-∈, ∈-⋃}
@@ -11,7 +11,7 @@ use Rattle.semantics.specs.Definitions.Setting.{Setting, k}
 use Rattle.semantics.specs.Definitions.Verdict.{beliefSets, knownIn, possibleIn}
 use Rattle.semantics.specs.Definitions.Order.{order}
 use Rattle.semantics.specs.Definitions.Listing.{View, viewOf, listing}
-use Rattle.semantics.specs.Definitions.Query.{Answer, Yes, No, Open, answer, query}
+use Rattle.semantics.specs.Definitions.Query.{Yes, No, Open, answer, query}
 use Rattle.semantics.specs.Theorems.Verdict.{known-is, within}
 use Rattle.semantics.specs.Theorems.WorldView.{WorldView}
 use Rattle.semantics.specs.Theorems.Order.{order-enumerates}

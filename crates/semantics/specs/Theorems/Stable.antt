@@ -1,7 +1,7 @@
 -- 002: the test `stable` decides "a model of the reduced program of which no proper subset is a model". Assumes nothing.
 use Prim.Native.Nat.{ℕ, _^_, _<_}
-use mathlib.Core.Path.{_≡_, refl, sym, subst}
-use mathlib.Core.List.{List, map}
+use mathlib.Core.Path.{refl, sym, subst}
+use mathlib.Core.List.{List}
 use mathlib.Core.Logic.{_↔_}
 use Rattle.sets.specs.Decides.{Decides, is-true, dec-iff, dec-not, dec-and, dec-imp}
 use Rattle.sets.specs.Lists.{_among_, keep, among-keep, among-map, upTo, among-upTo, dec-every, dec-any}

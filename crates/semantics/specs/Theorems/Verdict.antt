@@ -1,18 +1,18 @@
 -- 000, Definitions 1 and 5: a guess is verified exactly when it is reduct-verifiable. Assumes nothing.
 use Prim.Native.Nat.{ℕ, _^_, _<_}
-use mathlib.Core.Path.{_≡_, refl, sym, ap, _∙_, subst}
+use mathlib.Core.Path.{_≡_, refl, sym, subst}
 use mathlib.Core.Bool.{Bool, true, false, not, _&&_, cond, true≢false, Bool·not-not}
 use mathlib.Core.List.{List}
-use mathlib.Core.Logic.{_↔_, _⊎_, ⊎-elim}
+use mathlib.Core.Logic.{_↔_, ⊎-elim}
 use lib.Dec.{eqb}
 use lib.ListN.{length}
-use Rattle.sets.specs.Decides.{Decides, is-true, decided, dec-one, dec-iff, dec-not, dec-and, dec-eq}
-use Rattle.sets.specs.Lists.{_among_, null, some, dec-some, dec-member}
-use Rattle.sets.specs.Sets.{_∈_, _∈?_, ⋂, ⋃, setOf}
+use Rattle.sets.specs.Decides.{Decides, is-true, decided, dec-iff, dec-not, dec-and, dec-eq}
+use Rattle.sets.specs.Lists.{_among_, null, dec-some, dec-member}
+use Rattle.sets.specs.Sets.{_∈_, _∈?_}
 use Rattle.sets.specs.Members.{dec-∈, ∈-below, ∈-ext, ∈-⋂, ∈-⋃, ∈-setOf, setOf-below}
 use Rattle.semantics.specs.Definitions.Guesses.{Negation, not-known, may-be}
 use Rattle.semantics.specs.Definitions.Setting.{Setting, k, negation}
-use Rattle.semantics.specs.Definitions.Verdict.{beliefSets, knownIn, possibleIn, foundHas, guessFound, Verdict, empty, other, verified, judge, verdict, isEmpty, isOther, isVerified}
+use Rattle.semantics.specs.Definitions.Verdict.{beliefSets, knownIn, possibleIn, foundHas, guessFound, Verdict, empty, other, verified, verdict, isEmpty, isOther, isVerified}
 use Rattle.semantics.specs.Theorems.Stable.{belief-sets}
 
 -- Definition 1: the negation is satisfied by W.
@@ -73,6 +73,15 @@ module _ (s : Setting) (g : ℕ) where
   pub within : (i : ℕ) → i among beliefSets s g → i < 2 ^ s .atoms
   within i m = belief-sets s g .0 m .0
 
+  -- a reduct-verifiable guess is the guess found
+  pub verifiable-found : g < 2 ^ k s → Verifiable s g → guessFound s (beliefSets s g) ≡ g
+  verifiable-found l v =
+      let w = beliefSets s g in
+      ∈-ext (guessFound s w) g (λ j. (
+        λ m. let h = ∈-below (found-below s w) m in v .exact j h .1 (found-exact s w within (v .non-empty) j h .0 m),
+        λ m. let h = ∈-below l m in found-exact s w within (v .non-empty) j h .1 (v .exact j h .0 m),
+      ))
+
   -- 'verified' exactly when reduct-verifiable
   pub dec-verifiable : g < 2 ^ k s → Decides (Verifiable s g) (isVerified (verdict s g))
   unfolding verdict
@@ -81,13 +90,7 @@ module _ (s : Setting) (g : ℕ) where
       rw (tests s w (null w) (eqb (guessFound s w) g) .1)
       (dec-iff (
         λ p. record { non-empty = p .0; exact = λ j h. subst (λ x. (j ∈ x) ↔ Satisfied w (negation s j)) (p .1) (found-exact s w within (p .0) j h) },
-        λ v. (
-          v .non-empty,
-          ∈-ext (guessFound s w) g (λ j. (
-            λ m. let h = ∈-below (found-below s w) m in v .exact j h .1 (found-exact s w within (v .non-empty) j h .0 m),
-            λ m. let h = ∈-below l m in found-exact s w within (v .non-empty) j h .1 (v .exact j h .0 m),
-          )),
-        ),
+        λ v. (v .non-empty, verifiable-found l v),
       ) (dec-and (dec-member w) (dec-eq (guessFound s w) g)))
 
   -- and then it says what is known, what is possible, and how many belief sets there are

@@ -1,24 +1,24 @@
 -- The walk along any list that enumerates the guesses, larger ones first, meets exactly the world views, in the list's order, and its six
 -- numbers are those of the definitions. Assumes nothing.
-use Prim.Native.Nat.{ℕ, suc, _+_, _^_, _≤_, _<_}
+use Prim.Native.Nat.{ℕ, _+_, _^_, _≤_, _<_}
 use mathlib.Core.Path.{_≡_, refl, sym, ap, _∙_, subst}
-use mathlib.Core.Bool.{Bool, true, false, not, _&&_, cond}
+use mathlib.Core.Bool.{Bool, true, false, not, _&&_}
 use mathlib.Core.List.{List, [], _∷_, _++_, foldl, append-nil, append-assoc}
-use mathlib.Core.Logic.{_↔_, _⊎_, inl, inr, ⊎-elim}
+use mathlib.Core.Logic.{inl, inr, ⊎-elim}
 use native.Mathlib.Omega.{arith}
 use lib.ListN.{length, length-append}
-use Rattle.sets.specs.Decides.{Decides, is-true, dec-one, dec-iff}
-use Rattle.sets.specs.Lists.{_among_, here, later, first-or-later, among-append, some, keep, among-keep, keep-snoc, only, dec-some, upTo, among-upTo, upTo-rising, Pairwise, pairwise-map, pairwise-keep, pairwise-suffix, as-long}
+use Rattle.sets.specs.Decides.{is-true, dec-one, dec-iff}
+use Rattle.sets.specs.Lists.{_among_, here, first-or-later, among-append, some, keep, among-keep, keep-snoc, only, dec-some, among-upTo, upTo-rising, Pairwise, pairwise-map, pairwise-keep, pairwise-suffix, as-long}
 use Rattle.sets.specs.Sets.{_⊂_, _⊂?_, size}
 use Rattle.sets.specs.Members.{dec-⊂}
 use Rattle.sets.specs.Size.{size-⊂}
 use Rattle.semantics.specs.Definitions.Setting.{Setting, k, guesses}
-use Rattle.semantics.specs.Definitions.Verdict.{Verdict, verdict, isEmpty, isOther, isVerified}
+use Rattle.semantics.specs.Definitions.Verdict.{verdict, isEmpty, isOther, isVerified}
 use Rattle.semantics.specs.Definitions.Propagation.{contradicted}
 use Rattle.semantics.specs.Definitions.Order.{Enumerates}
-use Rattle.semantics.specs.Definitions.Listing.{isWorldView, covered, ruled, tested, testedEmpty, testedOther, testedView, count, Tally, tallyOf}
-use Rattle.semantics.specs.Walk.{Walked, start, more, counted, advance, walk}
-use Rattle.semantics.specs.Theorems.WorldView.{WorldView, definition-6, dec-covered, tested-is, view-tested}
+use Rattle.semantics.specs.Definitions.Listing.{isWorldView, covered, ruled, tested, testedEmpty, testedOther, count, tallyOf}
+use Rattle.semantics.specs.Walk.{Walked, more, advance, walk}
+use Rattle.semantics.specs.Theorems.WorldView.{definition-6, dec-covered, tested-is, view-tested}
 
 -- the number of those that pass, with one more at the end
 more-kept : (f : ℕ → Bool) (l : List ℕ) (x : ℕ) {b : Bool} → b ≡ f x → more b (length (keep f l)) ≡ length (keep f (l ++ x ∷ []))

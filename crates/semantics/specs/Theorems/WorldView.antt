@@ -2,7 +2,7 @@
 use Prim.Native.Nat.{ℕ, zero, suc, _+_, _^_, _≤_, _<_}
 use mathlib.Core.Path.{_≡_, refl}
 use mathlib.Core.Bool.{Bool, true, false, not, _&&_}
-use mathlib.Core.Logic.{_↔_, _⊎_, inl, inr, ⊎-elim}
+use mathlib.Core.Logic.{_⊎_, ⊎-elim}
 use native.Mathlib.Omega.{arith}
 use Rattle.sets.specs.Decides.{Decides, decided, dec-one, dec-iff, dec-not, dec-and}
 use Rattle.sets.specs.Lists.{dec-any}
@@ -10,7 +10,6 @@ use Rattle.sets.specs.Sets.{_⊆_, _⊂_, size}
 use Rattle.sets.specs.Members.{⊆-refl, ⊆-trans, dec-⊂, ⊂-⊆-trans}
 use Rattle.sets.specs.Size.{size-below, size-⊂}
 use Rattle.semantics.specs.Definitions.Setting.{Setting, k}
-use Rattle.semantics.specs.Definitions.Verdict.{verdict, isVerified}
 use Rattle.semantics.specs.Definitions.Listing.{isWorldView, covered, tested, testedView}
 use Rattle.semantics.specs.Definitions.Propagation.{contradicted}
 use Rattle.semantics.specs.Theorems.Verdict.{Verifiable, dec-verifiable}
