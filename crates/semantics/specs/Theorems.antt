@@ -4,6 +4,7 @@ pub mod Reduct
 pub mod Stable
 pub mod Verdict
 pub mod Closure
+pub mod Apart
 pub mod Contradicted
 pub mod WorldView
 pub mod ModalReduct

@@ -62,11 +62,6 @@ dec-if {a = true} d e f = dec-iff (λ q. inl (d .yes refl, q), ⊎-elim (λ p. p
 dec-if {a = false} d e f = dec-iff (λ r. inr (d .no refl, r), ⊎-elim (λ p. absurd (d .no refl (p .0))) (λ p. p .1)) f
 
 -- ---- first answers
--- a test is its own question
-pub dec-self : (b : Bool) → Decides (b ≡ true) b
-dec-self true = dec-true refl
-dec-self false = dec-false (λ e. true≢false (sym e))
-
 pub dec-eq : (a b : ℕ) → Decides (a ≡ b) (eqb a b)
 dec-eq a b = record { yes = eqb-true a b; no = eqb-false a b }
 

@@ -26,6 +26,6 @@ k s = length (s .negations)
 abbrev pub negation : Setting → ℕ → Negation
 negation s j = numbered (s .negations) j
 
--- "A guess is a number below 2^k": all of them, rising
+-- "A guess is a number below 2^k": all of them, rising. ("Its size is the number of set bits": `size` of sets.)
 abbrev pub guesses : Setting → List ℕ
 guesses s = upTo (2 ^ k s)

@@ -17,6 +17,7 @@ satisfies i r = not (r .plain ⊆? i && negationsHold i r) || r .head meets? i
 abbrev pub isModel : List Rule → ℕ → Bool
 isModel p i = every (satisfies i) p
 
+-- without its "not" and "not not" literals
 abbrev pub positive : Rule → Rule
 positive r = record { head = r .head; plain = r .plain; nots = ∅; notNots = ∅ }
 

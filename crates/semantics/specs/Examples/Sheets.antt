@@ -11,10 +11,10 @@ abbrev pub rule : (head plain nots notNots K notK M notM : ℕ) → EpistemicRul
 rule m0 m1 m2 m3 m4 m5 m6 m7 = ruleOf (λ i. getD (m0 ∷ m1 ∷ m2 ∷ m3 ∷ m4 ∷ m5 ∷ m6 ∷ m7 ∷ []) i 0)
 
 abbrev pub view : (guess known possible sets : ℕ) → View
-view g n p m = record { guess = g; known = n; possible = p; sets = m }
+view guess known possible sets = record { guess = guess; known = known; possible = possible; sets = sets }
 
 abbrev pub tally : (views covered ruled tested empty other : ℕ) → Tally
-tally v c r t e o = record { views = v; covered = c; ruled = r; tested = t; empty = e; other = o }
+tally views covered ruled tested empty other = record { views = views; covered = covered; ruled = ruled; tested = tested; empty = empty; other = other }
 
 -- a sheet with its list: "Views as (guess, known, possible, sets); tally as above."
 pub record Listed : Type 0 where
@@ -26,26 +26,43 @@ abbrev pub sheet : ℕ → List EpistemicRule → List View → Tally → Listed
 sheet n rs vs t = record { setting = settingOf n rs; views = vs; tally = t }
 
 -- "a, b, c are atoms 0, 1, 2."
-abbrev pub ten : List Listed
-ten =
-    -- 1. bytes 0, 0
-    sheet 0 [] (view 0 0 0 1 ∷ []) (tally 1 0 0 1 0 0)
-    -- 2. a ← K a
-    ∷ sheet 1 (rule 1 0 0 0 1 0 0 0 ∷ []) (view 1 0 0 1 ∷ []) (tally 1 1 0 1 0 0)
-    -- 3. a ← not K a
-    ∷ sheet 1 (rule 1 0 0 0 0 1 0 0 ∷ []) [] (tally 0 0 1 1 1 0)
-    -- 4. a ← M a
-    ∷ sheet 1 (rule 1 0 0 0 0 0 1 0 ∷ []) (view 1 1 1 1 ∷ []) (tally 1 1 0 1 0 0)
-    -- 5. a ← not M a
-    ∷ sheet 1 (rule 1 0 0 0 0 0 0 1 ∷ []) [] (tally 0 0 1 1 1 0)
-    -- 6. a ← not K b; b ← not K a
-    ∷ sheet 2 (rule 1 0 0 0 0 2 0 0 ∷ rule 2 0 0 0 0 1 0 0 ∷ []) (view 1 2 2 1 ∷ view 2 1 1 1 ∷ []) (tally 2 1 1 2 0 0)
-    -- 7. a ← not not a
-    ∷ sheet 1 (rule 1 0 0 1 0 0 0 0 ∷ []) (view 0 0 1 2 ∷ []) (tally 1 0 0 1 0 0)
-    -- 8. a or b
-    ∷ sheet 2 (rule 3 0 0 0 0 0 0 0 ∷ []) (view 0 0 3 2 ∷ []) (tally 1 0 0 1 0 0)
-    -- 9. a; ← a
-    ∷ sheet 1 (rule 1 0 0 0 0 0 0 0 ∷ rule 0 1 0 0 0 0 0 0 ∷ []) [] (tally 0 0 1 0 0 0)
-    -- 10. c ← M a; a ← b; b ← a
-    ∷ sheet 3 (rule 4 0 0 0 0 0 1 0 ∷ rule 1 2 0 0 0 0 0 0 ∷ rule 2 1 0 0 0 0 0 0 ∷ []) (view 0 0 0 1 ∷ []) (tally 1 0 0 2 0 1)
-    ∷ []
+module _ where
+  -- a ← K a
+  abbrev pub sheet-2 : Listed
+  sheet-2 = sheet 1 (rule 1 0 0 0 1 0 0 0 ∷ []) (view 1 0 0 1 ∷ []) (tally 1 1 0 1 0 0)
+
+  -- a ← not K a
+  abbrev pub sheet-3 : Listed
+  sheet-3 = sheet 1 (rule 1 0 0 0 0 1 0 0 ∷ []) [] (tally 0 0 1 1 1 0)
+
+  -- a ← not K b; b ← not K a
+  abbrev pub sheet-6 : Listed
+  sheet-6 = sheet 2 (rule 1 0 0 0 0 2 0 0 ∷ rule 2 0 0 0 0 1 0 0 ∷ []) (view 1 2 2 1 ∷ view 2 1 1 1 ∷ []) (tally 2 1 1 2 0 0)
+
+  -- a ← not not a
+  abbrev pub sheet-7 : Listed
+  sheet-7 = sheet 1 (rule 1 0 0 1 0 0 0 0 ∷ []) (view 0 0 1 2 ∷ []) (tally 1 0 0 1 0 0)
+
+  abbrev pub ten : List Listed
+  ten =
+      -- bytes 0, 0
+      sheet 0 [] (view 0 0 0 1 ∷ []) (tally 1 0 0 1 0 0)
+      ∷ sheet-2
+      ∷ sheet-3
+      -- a ← M a
+      ∷ sheet 1 (rule 1 0 0 0 0 0 1 0 ∷ []) (view 1 1 1 1 ∷ []) (tally 1 1 0 1 0 0)
+      -- a ← not M a
+      ∷ sheet 1 (rule 1 0 0 0 0 0 0 1 ∷ []) [] (tally 0 0 1 1 1 0)
+      ∷ sheet-6
+      ∷ sheet-7
+      -- a or b
+      ∷ sheet 2 (rule 3 0 0 0 0 0 0 0 ∷ []) (view 0 0 3 2 ∷ []) (tally 1 0 0 1 0 0)
+      -- a; ← a
+      ∷ sheet 1 (rule 1 0 0 0 0 0 0 0 ∷ rule 0 1 0 0 0 0 0 0 ∷ []) [] (tally 0 0 1 0 0 0)
+      -- c ← M a; a ← b; b ← a
+      ∷ sheet 3 (rule 4 0 0 0 0 0 1 0 ∷ rule 1 2 0 0 0 0 0 0 ∷ rule 2 1 0 0 0 0 0 0 ∷ []) (view 0 0 0 1 ∷ []) (tally 1 0 0 2 0 1)
+      ∷ []
+
+-- the example of `views`: glaze or bisque; ← not K glaze
+abbrev pub kiln : Listed
+kiln = sheet 2 (rule 3 0 0 0 0 0 0 0 ∷ rule 0 0 0 0 0 1 0 0 ∷ []) (view 0 1 1 1 ∷ []) (tally 1 0 1 1 0 0)

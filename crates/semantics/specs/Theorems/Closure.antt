@@ -83,12 +83,12 @@ module _ {x y : Pair} (w : Within x y) where
 
 module _ (n : ℕ) (p : List Rule) where
   -- ---- a step adds what enters
-  step-T : (x : Pair) (a : ℕ) → a ∈ step n p x .T ↔ ((a < n) × ((a ∈ x .T) ⊎ EntersT p x a))
+  pub step-T : (x : Pair) (a : ℕ) → a ∈ step n p x .T ↔ ((a < n) × ((a ∈ x .T) ⊎ EntersT p x a))
   step-T x a =
       let d = dec-or (dec-∈ a (x .T)) (dec-enters-T p x a) in
       (λ m. let (l, e) = ∈-setOf _ a n .0 m in (l, d .yes e), λ q. ∈-setOf _ a n .1 (q .0, is-true d (q .1)))
 
-  step-F : (x : Pair) (a : ℕ) → a ∈ step n p x .F ↔ ((a < n) × ((a ∈ x .F) ⊎ EntersF p x a))
+  pub step-F : (x : Pair) (a : ℕ) → a ∈ step n p x .F ↔ ((a < n) × ((a ∈ x .F) ⊎ EntersF p x a))
   step-F x a =
       let d = dec-or (dec-∈ a (x .F)) (dec-enters-F p x a) in
       (λ m. let (l, e) = ∈-setOf _ a n .0 m in (l, d .yes e), λ q. ∈-setOf _ a n .1 (q .0, is-true d (q .1)))
@@ -124,7 +124,7 @@ module _ (n : ℕ) (p : List Rule) where
   fixed-or-not : (x : Pair) → Fixed x ⊎ (Fixed x → ⊥)
   fixed-or-not x = decided (dec-and (dec-eq (x .T) (step n p x .T)) (dec-eq (x .F) (step n p x .F)))
 
-  stage-below : (i : ℕ) → (steps n p i .T < 2 ^ n) × (steps n p i .F < 2 ^ n)
+  pub stage-below : (i : ℕ) → (steps n p i .T < 2 ^ n) × (steps n p i .F < 2 ^ n)
   unfolding steps
   stage-below zero = (pow-pos n, pow-pos n)
   stage-below (suc i) = (setOf-below _ n, setOf-below _ n)
@@ -132,7 +132,7 @@ module _ (n : ℕ) (p : List Rule) where
   measure : Pair → ℕ
   measure x = size (x .T) + size (x .F)
 
-  grows : (x : Pair) → x .T < 2 ^ n → x .F < 2 ^ n → Within x (step n p x)
+  pub grows : (x : Pair) → x .T < 2 ^ n → x .F < 2 ^ n → Within x (step n p x)
   grows x t f = record {
     in-T = record { into = λ {a} m. step-T x a .1 (∈-below t m, inl m) };
     in-F = record { into = λ {a} m. step-F x a .1 (∈-below f m, inl m) };
