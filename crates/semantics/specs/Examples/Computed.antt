@@ -16,6 +16,7 @@ use Rattle.semantics.specs.Definitions.Order.{order}
 use Rattle.semantics.specs.Definitions.Listing.{isWorldView, covered, tallyOf, viewOf, viewsAlong, listing}
 use Rattle.semantics.specs.Walk.{walk}
 use Rattle.semantics.specs.Examples.Sheets.{Listed, ten, kiln, sheet-2, sheet-3, sheet-6, sheet-7}
+use Rattle.semantics.specs.Examples.Own.{own}
 
 -- the list of a setting by the definitions, and by the walk along the order
 abbrev pub listed : Setting → Listed
@@ -25,7 +26,7 @@ abbrev pub walked : Setting → Listed
 walked s = let x = walk s (order (k s)) in record { setting = s; views = map (viewOf s) (x .met); tally = x .tally }
 
 abbrev pub sheets : List Listed
-sheets = ten ++ kiln ∷ []
+sheets = ten ++ kiln ∷ own
 
 -- "Sheets 1 to 10 are proved against the definitions, as one lemma over a list"; and what document 01 calls "Tempting to build"
 pub record Computed : Type 0 where
