@@ -1,12 +1,11 @@
 -- Lists as collections: membership, tests over the members, the members that pass a test, the numbers below n. Assumes nothing.
-use Prim.Native.Nat.{ℕ, zero, suc, _+_, _≤_, _<_, zero-le}
+use Prim.Native.Nat.{ℕ, zero, suc, _<_}
 use mathlib.Core.Path.{_≡_, refl, sym, ap, ap₂, _∙_, subst}
 use mathlib.Core.Bool.{Bool, true, false, not, _&&_, _||_, cond, true≢false}
 use mathlib.Core.List.{List, [], _∷_, _++_, append-nil, append-assoc, map, List·Memᴰ, List·Memᴰ·head, List·Memᴰ·tail, List·Memᴰ·not-nil, List·Memᴰ·cases-cons, List·Memᴰ·append-cases, List·Memᴰ·eq-of-singleton, Memᴰ·append-left, Memᴰ·append-right}
 use mathlib.Core.Logic.{_↔_, _⊎_, inl, inr, ⊎-elim}
 use native.Mathlib.Omega.{arith}
-use native.Mathlib.Nat.{le-antisymm, eq-or-lt-of-le, le-of-suc-le-suc, not-suc-le-zero}
-use lib.ListN.{length, length-append}
+use native.Mathlib.Nat.{eq-or-lt-of-le, le-of-suc-le-suc, not-suc-le-zero}
 use Rattle.sets.specs.Decides.{Decides, dec-true, dec-false, dec-iff, dec-and, dec-or}
 
 infix 45 _among_
@@ -52,15 +51,6 @@ upTo (suc n) = upTo n ++ n ∷ []
 unfoldable pub downFrom : ℕ → List ℕ
 downFrom zero = []
 downFrom (suc n) = n ∷ downFrom n
-
--- R holds of each member and every later one
-abbrev pub Pairwise : {A : Type 0} → (A → A → Type 0) → List A → Type 0
-Pairwise R [] = Unit {0}
-Pairwise R (x ∷ l) = ((y : _) → y among l → R x y) × Pairwise R l
-
--- no member stands twice
-abbrev pub Distinct : {A : Type 0} → List A → Type 0
-Distinct l = Pairwise (λ x y. x ≡ y → ⊥) l
 
 -- ---- membership
 module _ {A : Type 0} where
@@ -203,122 +193,3 @@ module _ (P : ℕ → Type 0) (f : ℕ → Bool) (n : ℕ) (d : (k : ℕ) → k 
   dec-any =
       dec-iff (λ p. (p .0, among-upTo n .0 (p .1), p .2), λ p. (p .0, among-upTo n .1 (p .1), p .2))
       (dec-some f P (upTo n) (λ k m. d k (among-upTo n .0 m)))
-
--- ---- pairs of members
-module _ {A : Type 0} where
-  pub pairwise-map : {R S : A → A → Type 0} (l : List A) → ((x y : A) → x among l → y among l → R x y → S x y) → Pairwise R l → Pairwise S l
-  pairwise-map [] f p = tt
-  pairwise-map (x ∷ l) f p = (λ y m. f x y here (later m) (p .0 y m), pairwise-map l (λ y z m n. f y z (later m) (later n)) (p .1))
-
-  pub pairwise-append : (R : A → A → Type 0) (l m : List A) → Pairwise R l → Pairwise R m → ((x y : A) → x among l → y among m → R x y) → Pairwise R (l ++ m)
-  pairwise-append R [] m p q h = q
-  pairwise-append R (x ∷ l) m p q h =
-      (λ y k. ⊎-elim (p .0 y) (h x y here) (among-append l .0 k), pairwise-append R l m (p .1) q (λ z y k. h z y (later k)))
-
-  pub pairwise-suffix : (R : A → A → Type 0) (l m : List A) → Pairwise R (l ++ m) → Pairwise R m
-  pairwise-suffix R [] m p = p
-  pairwise-suffix R (x ∷ l) m p = pairwise-suffix R l m (p .1)
-
-  pub pairwise-mapped : {B : Type 0} (R : B → B → Type 0) (f : A → B) (l : List A) → Pairwise (λ x y. R (f x) (f y)) l → Pairwise R (map f l)
-  pairwise-mapped R f [] p = tt
-  pairwise-mapped R f (x ∷ l) p =
-      (λ y m. let (z, n, e) = among-map f l .0 m in subst (R (f x)) (sym e) (p .0 z n), pairwise-mapped R f l (p .1))
-
-  pub pairwise-keep : (R : A → A → Type 0) (f : A → Bool) (l : List A) → Pairwise R l → Pairwise R (keep f l)
-  unfolding keep
-  pairwise-keep R f [] p = tt
-  pairwise-keep R f (x ∷ l) p = go (f x) (pairwise-keep R f l (p .1))
-    where
-      go : (b : Bool) → Pairwise R (keep f l) → Pairwise R (cond b (x ∷ keep f l) (keep f l))
-      go true q = (λ y m. p .0 y (among-keep f l .0 m .0), q)
-      go false q = q
-
-  -- ---- a list with no member twice is no longer than one that has all its members
-  split : {x : A} (l : List A) → x among l → (a : List A) × (b : List A) × (l ≡ a ++ x ∷ b)
-  split [] m = absurd (nowhere m)
-  split (y ∷ l) m =
-      ⊎-elim (λ e. ([], l, rw e)) (λ k. let (a, b, e) = split l k in (y ∷ a, b, ap (λ z. y ∷ z) e)) (first-or-later m)
-
-  without : {x y : A} (a b : List A) → (y ≡ x → ⊥) → y among (a ++ x ∷ b) → y among (a ++ b)
-  without a b n m = among-append a .1 (⊎-elim inl (λ q. ⊎-elim (λ e. absurd (n e)) inr (first-or-later q)) (among-append a .0 m))
-
-  pub no-longer : (l m : List A) → Distinct l → ((x : A) → x among l → x among m) → length l ≤ length m
-  no-longer [] m d f = zero-le
-  no-longer (x ∷ l) m d f =
-      let (a, b, e) = split m (f x here) in
-      let ih = no-longer l (a ++ b) (d .1) (λ y k. without a b (λ z. d .0 y k (sym z)) (subst (λ z. y among z) e (f y (later k)))) in
-      omega (arith, ap length e, length-append a (x ∷ b), length-append a b)
-
-  pub as-long : (l m : List A) → Distinct l → Distinct m → ((x : A) → (x among l) ↔ (x among m)) → length l ≡ length m
-  as-long l m d e f = le-antisymm (no-longer l m d (λ x. f x .0)) (no-longer m l e (λ x. f x .1))
-
--- ---- two lists in one strict order, with the same members, are equal
-module _ {A : Type 0} (R : A → A → Type 0) (strict : (x y : A) → R x y → R y x → ⊥) where
-  pub sorted-same : (l m : List A) → Pairwise R l → Pairwise R m → ((x : A) → (x among l) ↔ (x among m)) → l ≡ m
-  sorted-same [] [] p q f = refl
-  sorted-same [] (y ∷ m) p q f = absurd (nowhere (f y .1 here))
-  sorted-same (x ∷ l) [] p q f = absurd (nowhere (f x .0 here))
-  sorted-same (x ∷ l) (y ∷ m) p q f = ap₂ _∷_ heads (sorted-same l m (p .1) (q .1) tails)
-    where
-      heads : x ≡ y
-      heads =
-          ⊎-elim (λ e. e) (λ h. ⊎-elim sym (λ k. absurd (strict x y (p .0 y k) (q .0 x h))) (first-or-later (f y .1 here)))
-          (first-or-later (f x .0 here))
-
-      tails : (z : A) → (z among l) ↔ (z among m)
-      tails z = (
-        λ h. ⊎-elim (λ e. absurd (let r = p .0 z h in let r′ : R x x = subst (R x) (e ∙ sym heads) r in strict x x r′ r′)) (λ k. k) (first-or-later (f z .0 (later h))),
-        λ h. ⊎-elim (λ e. absurd (let r = q .0 z h in let r′ : R y y = subst (R y) (e ∙ heads) r in strict y y r′ r′)) (λ k. k) (first-or-later (f z .1 (later h))),
-      )
-
-pub upTo-rising : (n : ℕ) → Pairwise _<_ (upTo n)
-unfolding upTo
-upTo-rising zero = tt
-upTo-rising (suc n) =
-    pairwise-append _<_ (upTo n) (n ∷ []) (upTo-rising n) (λ y m. absurd (nowhere m), tt)
-    (λ x y k m. let l = among-upTo n .0 k in let e = List·Memᴰ·eq-of-singleton m in omega arith)
-
-pub downFrom-falling : (n : ℕ) → Pairwise (λ i j. j < i) (downFrom n)
-unfolding downFrom
-downFrom-falling zero = tt
-downFrom-falling (suc n) = (λ j m. among-downFrom n .0 m, downFrom-falling n)
-
-pub pairwise-flat : {A B : Type 0} (R : B → B → Type 0) (S : A → A → Type 0) (f : A → List B) (l : List A)
-    → Pairwise S l → ((i : A) → Pairwise R (f i)) → ((i j : A) (x y : B) → S i j → x among f i → y among f j → R x y) → Pairwise R (flat f l)
-unfolding flat
-pairwise-flat R S f [] p q h = tt
-pairwise-flat R S f (i ∷ l) p q h =
-    pairwise-append R (f i) (flat f l) (q i) (pairwise-flat R S f l (p .1) q h)
-    (λ x y m n. let (j, k, o) = among-flat f l .0 n in h i j x y (p .0 j k) m o)
-
--- ---- how many members pass a test
-abbrev pub one : Bool → ℕ
-one b = cond b 1 0
-
-module _ {A : Type 0} where
-  pub length-keep : (f : A → Bool) (x : A) (l : List A) → length (keep f (x ∷ l)) ≡ one (f x) + length (keep f l)
-  unfolding keep
-  length-keep f x l = go (f x)
-    where
-      go : (b : Bool) → length (cond b (x ∷ keep f l) (keep f l)) ≡ one b + length (keep f l)
-      go true = omega arith
-      go false = omega arith
-
-  -- where each member that passes f passes one of three tests, and no other member passes any
-  pub length-shared : (f a b c : A → Bool) (l : List A) → ((x : A) → x among l → one (f x) ≡ one (a x) + one (b x) + one (c x))
-      → length (keep f l) ≡ length (keep a l) + length (keep b l) + length (keep c l)
-  unfolding keep
-  length-shared f a b c [] h = refl
-  length-shared f a b c (x ∷ l) h =
-      let ih = length-shared f a b c l (λ y m. h y (later m)) in
-      omega (arith, h x here, length-keep f x l, length-keep a x l, length-keep b x l, length-keep c x l)
-
-  pub keep-all : (l : List A) → keep (λ _. true) l ≡ l
-  unfolding keep
-  keep-all [] = refl
-  keep-all (x ∷ l) = ap (λ m. x ∷ m) (keep-all l)
-
-pub length-upTo : (n : ℕ) → length (upTo n) ≡ n
-unfolding upTo
-length-upTo zero = refl
-length-upTo (suc n) = length-append (upTo n) (n ∷ []) ∙ omega (arith, length-upTo n)

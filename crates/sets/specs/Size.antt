@@ -10,7 +10,9 @@ use lib.Count.{ones, ones-cat, ones-le, onesIn}
 use lib.ListN.{length, length-append}
 use lib.Pow.{mod-pow-add, pow-pos}
 use Rattle.sets.specs.Decides.{decided, is-true, dec-eq}
-use Rattle.sets.specs.Lists.{_among_, keep, keep-snoc, among-keep, only, upTo, among-upTo, upTo-rising, Distinct, first-or-later, pairwise-map, pairwise-keep, no-longer}
+use Rattle.sets.specs.Lists.{_among_, keep, keep-snoc, among-keep, only, upTo, among-upTo, first-or-later}
+use Rattle.sets.specs.Pairwise.{upTo-rising, Distinct, pairwise-map, pairwise-keep}
+use Rattle.sets.specs.Counting.{no-longer}
 use Rattle.sets.specs.Sets.{_∈_, _⊆_, _⊂_, _∈?_, size}
 use Rattle.sets.specs.Members.{dec-∈, ∈-below, ⊆-antisym, ⊆-le}
 

@@ -4,7 +4,8 @@ use mathlib.Core.Path.{_≡_}
 use mathlib.Core.Logic.{_⊎_}
 use mathlib.Core.List.{List}
 use lib.Dec.{eqb}
-use Rattle.sets.specs.Lists.{_among_, keep, flat, upTo, downFrom, Pairwise, Distinct}
+use Rattle.sets.specs.Lists.{_among_, keep, flat, upTo, downFrom}
+use Rattle.sets.specs.Pairwise.{Pairwise, Distinct}
 use Rattle.sets.specs.Sets.{size}
 
 -- "size falling and then number rising": sizes k down to 0, in each the guesses by rising number. "for smaller k its members below 2^k are

@@ -1,10 +1,8 @@
 -- The definitions, and the walk, computed on the known sheets. Assumes nothing.
-use Prim.Native.Nat.{ℕ}
 use mathlib.Core.Path.{_≡_, refl}
 use mathlib.Core.List.{List, [], _∷_, _++_, map}
 use native.Mathlib.Decide.{ℕ-discrete}
 use lib.Count.{ones, onesIn}
-use lib.ListN.{length}
 use Rattle.sets.specs.Lists.{every, some, keep, flat, upTo, downFrom}
 use Rattle.sets.specs.Sets.{setOf}
 use Rattle.semantics.specs.Definitions.Reduct.{reductRule, reduct}

@@ -5,7 +5,8 @@ use mathlib.Core.List.{List, [], map}
 use mathlib.Core.Logic.{_↔_}
 use lib.ListN.{length, length-map}
 use Rattle.sets.specs.Decides.{is-true}
-use Rattle.sets.specs.Lists.{_among_, keep, among-keep, among-map, no-members, Pairwise, pairwise-keep, pairwise-mapped}
+use Rattle.sets.specs.Lists.{_among_, keep, among-keep, among-map, no-members}
+use Rattle.sets.specs.Pairwise.{Pairwise, pairwise-keep, pairwise-mapped}
 use Rattle.sets.specs.Sets.{size}
 use Rattle.semantics.specs.Definitions.Setting.{Setting, k}
 use Rattle.semantics.specs.Definitions.Verdict.{verified, verdict}

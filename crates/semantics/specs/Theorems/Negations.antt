@@ -8,7 +8,8 @@ use native.Mathlib.Omega.{arith}
 use native.Mathlib.Decide.{ℕ-discrete}
 use lib.ListN.{length}
 use Rattle.sets.specs.Decides.{Decides, is-true, dec-and, dec-or, dec-does}
-use Rattle.sets.specs.Lists.{_among_, nowhere, among-append, among-only, among-flat, only, upTo, among-upTo, upTo-rising, dec-some, dec-any, Distinct, pairwise-append, pairwise-flat}
+use Rattle.sets.specs.Lists.{_among_, nowhere, among-append, among-only, among-flat, only, upTo, among-upTo, dec-some, dec-any}
+use Rattle.sets.specs.Pairwise.{upTo-rising, Distinct, pairwise-append, pairwise-flat}
 use Rattle.sets.specs.Sets.{_∈_}
 use Rattle.sets.specs.Members.{dec-∈}
 use Rattle.semantics.specs.Definitions.Rules.{EpistemicRule, Subjective, K, notK, M, notM}

@@ -9,7 +9,8 @@ use lib.Dec.{eqb, ltb}
 use lib.Pow.{pow-mono}
 use borrow.Author.Tests.{ltb-true, lt-ltb}
 use Rattle.sets.specs.Decides.{is-true, dec-eq}
-use Rattle.sets.specs.Lists.{_among_, keep, among-keep, upTo, among-upTo, upTo-rising, downFrom, among-downFrom, downFrom-falling, among-flat, Pairwise, pairwise-map, pairwise-keep, pairwise-flat, sorted-same}
+use Rattle.sets.specs.Lists.{_among_, keep, among-keep, upTo, among-upTo, downFrom, among-downFrom, among-flat}
+use Rattle.sets.specs.Pairwise.{upTo-rising, downFrom-falling, Pairwise, pairwise-map, pairwise-keep, pairwise-flat, sorted-same}
 use Rattle.sets.specs.Sets.{size}
 use Rattle.sets.specs.Size.{size-below}
 use Rattle.semantics.specs.Definitions.Order.{order, Before, Enumerates}

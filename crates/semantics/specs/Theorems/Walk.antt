@@ -8,7 +8,9 @@ use mathlib.Core.Logic.{inl, inr, ⊎-elim}
 use native.Mathlib.Omega.{arith}
 use lib.ListN.{length, length-append}
 use Rattle.sets.specs.Decides.{is-true, dec-one, dec-iff}
-use Rattle.sets.specs.Lists.{_among_, here, first-or-later, among-append, some, keep, among-keep, keep-snoc, only, dec-some, among-upTo, upTo-rising, Pairwise, pairwise-map, pairwise-keep, pairwise-suffix, as-long}
+use Rattle.sets.specs.Lists.{_among_, here, first-or-later, among-append, some, keep, among-keep, keep-snoc, only, dec-some, among-upTo}
+use Rattle.sets.specs.Pairwise.{upTo-rising, Pairwise, pairwise-map, pairwise-keep, pairwise-suffix}
+use Rattle.sets.specs.Counting.{as-long}
 use Rattle.sets.specs.Sets.{_⊂_, _⊂?_, size}
 use Rattle.sets.specs.Members.{dec-⊂}
 use Rattle.sets.specs.Size.{size-⊂}

@@ -1,0 +1,63 @@
+-- How many members a list has, and how many of them pass a test. Assumes nothing.
+use Prim.Native.Nat.{ℕ, zero, suc, _+_, _≤_, zero-le}
+use mathlib.Core.Path.{_≡_, refl, sym, ap, _∙_, subst}
+use mathlib.Core.Bool.{Bool, true, false, cond}
+use mathlib.Core.List.{List, [], _∷_, _++_}
+use mathlib.Core.Logic.{_↔_, inl, inr, ⊎-elim}
+use native.Mathlib.Omega.{arith}
+use native.Mathlib.Nat.{le-antisymm}
+use lib.ListN.{length, length-append}
+use Rattle.sets.specs.Lists.{_among_, here, later, nowhere, first-or-later, keep, upTo, among-append}
+use Rattle.sets.specs.Pairwise.{Distinct}
+
+-- ---- a list with no member twice is no longer than one that has all its members
+module _ {A : Type 0} where
+  split : {x : A} (l : List A) → x among l → (a : List A) × (b : List A) × (l ≡ a ++ x ∷ b)
+  split [] m = absurd (nowhere m)
+  split (y ∷ l) m =
+      ⊎-elim (λ e. ([], l, rw e)) (λ k. let (a, b, e) = split l k in (y ∷ a, b, ap (λ z. y ∷ z) e)) (first-or-later m)
+
+  without : {x y : A} (a b : List A) → (y ≡ x → ⊥) → y among (a ++ x ∷ b) → y among (a ++ b)
+  without a b n m = among-append a .1 (⊎-elim inl (λ q. ⊎-elim (λ e. absurd (n e)) inr (first-or-later q)) (among-append a .0 m))
+
+  pub no-longer : (l m : List A) → Distinct l → ((x : A) → x among l → x among m) → length l ≤ length m
+  no-longer [] m d f = zero-le
+  no-longer (x ∷ l) m d f =
+      let (a, b, e) = split m (f x here) in
+      let ih = no-longer l (a ++ b) (d .1) (λ y k. without a b (λ z. d .0 y k (sym z)) (subst (λ z. y among z) e (f y (later k)))) in
+      omega (arith, ap length e, length-append a (x ∷ b), length-append a b)
+
+  pub as-long : (l m : List A) → Distinct l → Distinct m → ((x : A) → (x among l) ↔ (x among m)) → length l ≡ length m
+  as-long l m d e f = le-antisymm (no-longer l m d (λ x. f x .0)) (no-longer m l e (λ x. f x .1))
+
+-- ---- how many members pass a test
+abbrev pub one : Bool → ℕ
+one b = cond b 1 0
+
+module _ {A : Type 0} where
+  pub length-keep : (f : A → Bool) (x : A) (l : List A) → length (keep f (x ∷ l)) ≡ one (f x) + length (keep f l)
+  unfolding keep
+  length-keep f x l = go (f x)
+    where
+      go : (b : Bool) → length (cond b (x ∷ keep f l) (keep f l)) ≡ one b + length (keep f l)
+      go true = omega arith
+      go false = omega arith
+
+  -- where each member that passes f passes one of three tests, and no other member passes any
+  pub length-shared : (f a b c : A → Bool) (l : List A) → ((x : A) → x among l → one (f x) ≡ one (a x) + one (b x) + one (c x))
+      → length (keep f l) ≡ length (keep a l) + length (keep b l) + length (keep c l)
+  unfolding keep
+  length-shared f a b c [] h = refl
+  length-shared f a b c (x ∷ l) h =
+      let ih = length-shared f a b c l (λ y m. h y (later m)) in
+      omega (arith, h x here, length-keep f x l, length-keep a x l, length-keep b x l, length-keep c x l)
+
+  pub keep-all : (l : List A) → keep (λ _. true) l ≡ l
+  unfolding keep
+  keep-all [] = refl
+  keep-all (x ∷ l) = ap (λ m. x ∷ m) (keep-all l)
+
+pub length-upTo : (n : ℕ) → length (upTo n) ≡ n
+unfolding upTo
+length-upTo zero = refl
+length-upTo (suc n) = length-append (upTo n) (n ∷ []) ∙ omega (arith, length-upTo n)
