@@ -1,17 +1,17 @@
--- The listing as it is run: a walk along a list of guesses with the world views met so far. The definitions of document 01 do not rest on
+-- The listing as it is to be run: a walk along a list of guesses with the views met so far. The definitions of document 01 do not rest on
 -- it; Theorems/Walk.antt shows that it gives what they say.
 use Prim.Native.Nat.{ℕ, suc}
 use mathlib.Core.Bool.{Bool, not, _&&_, cond}
-use mathlib.Core.List.{List, [], _++_, foldl}
-use Rattle.sets.specs.Lists.{some, only}
+use mathlib.Core.List.{List, [], _∷_, _++_, foldl}
+use Rattle.sets.specs.Lists.{some}
 use Rattle.sets.specs.Sets.{_⊂?_}
 use Rattle.semantics.specs.Definitions.Setting.{Setting}
-use Rattle.semantics.specs.Definitions.Verdict.{Verdict, verdict, isEmpty, isOther, isVerified}
+use Rattle.semantics.specs.Definitions.Verdict.{Verdict, empty, other, verified, verdict, isEmpty, isOther, isVerified}
 use Rattle.semantics.specs.Definitions.Propagation.{contradicted}
-use Rattle.semantics.specs.Definitions.Listing.{Tally}
+use Rattle.semantics.specs.Definitions.Listing.{Tally, View}
 
 pub record Walked : Type 0 where
-  pub met : List ℕ
+  pub met : List View
   pub tally : Tally
 
 abbrev pub start : Walked
@@ -31,13 +31,19 @@ counted t c r v = record {
   other = more (not c && not r && isOther v) (t .other);
 }
 
--- skipped where it is a proper subset of a view met, then where it is contradicted; else judged
+-- the view that a verdict on g gives
+abbrev pub viewBy : ℕ → Verdict → List View
+viewBy g empty = []
+viewBy g (other found) = []
+viewBy g (verified known possible sets) = record { guess = g; known = known; possible = possible; sets = sets } ∷ []
+
+-- skipped where it is a proper subset of the guess of a view met, then where it is contradicted; else judged
 abbrev pub advance : Setting → Walked → ℕ → Walked
 advance s x g =
-    let c = some (λ h. g ⊂? h) (x .met) in
+    let c = some (λ v. g ⊂? v .guess) (x .met) in
     let r = contradicted s g in
     let v = verdict s g in
-    record { met = x .met ++ only (not c && not r && isVerified v) g; tally = counted (x .tally) c r v }
+    record { met = x .met ++ cond (not c && not r) (viewBy g v) []; tally = counted (x .tally) c r v }
 
 unfoldable pub walk : Setting → List ℕ → Walked
 walk s l = foldl (advance s) start l

@@ -6,7 +6,7 @@ use mathlib.Core.List.{List, [], _∷_, _++_, append-nil, append-assoc, map, Lis
 use mathlib.Core.Logic.{_↔_, _⊎_, inl, inr, ⊎-elim}
 use native.Mathlib.Omega.{arith}
 use native.Mathlib.Nat.{eq-or-lt-of-le, le-of-suc-le-suc, not-suc-le-zero}
-use Rattle.sets.specs.Decides.{Decides, dec-true, dec-false, dec-iff, dec-and, dec-or}
+use Rattle.sets.specs.Decides.{is-true, Decides, dec-true, dec-false, dec-iff, dec-and, dec-or}
 
 infix 45 _among_
 -- x stands in the list l
@@ -183,13 +183,15 @@ among-downFrom (suc n) =
       λ h. ⊎-elim (λ e. List·Memᴰ·head e) (λ l. later (ih .1 l)) (eq-or-lt-of-le (le-of-suc-le-suc h)),
     )
 
--- ---- and over the numbers below n
-module _ (P : ℕ → Type 0) (f : ℕ → Bool) (n : ℕ) (d : (k : ℕ) → k < n → Decides (P k) (f k)) where
-  pub dec-all : Decides ((k : ℕ) → k < n → P k) (every f (upTo n))
-  dec-all =
-      dec-iff (λ p k l. p k (among-upTo n .1 l), λ p k m. p k (among-upTo n .0 m)) (dec-every f P (upTo n) (λ k m. d k (among-upTo n .0 m)))
+-- the numbers below n that pass a test
+pub among-kept : (P : ℕ → Type 0) (f : ℕ → Bool) → ((x : ℕ) → Decides (P x) (f x)) → (n : ℕ) {x : ℕ} → x among keep f (upTo n) ↔ ((x < n) × P x)
+among-kept P f d n {x} = (
+  λ m. let (k, e) = among-keep f (upTo n) .0 m in (among-upTo n .0 k, d x .yes e),
+  λ p. among-keep f (upTo n) .1 (among-upTo n .1 (p .0), is-true (d x) (p .1)),
+)
 
-  pub dec-any : Decides ((k : ℕ) × (k < n) × P k) (some f (upTo n))
-  dec-any =
-      dec-iff (λ p. (p .0, among-upTo n .0 (p .1), p .2), λ p. (p .0, among-upTo n .1 (p .1), p .2))
-      (dec-some f P (upTo n) (λ k m. d k (among-upTo n .0 m)))
+-- ---- "for some number below n"
+pub dec-any : (P : ℕ → Type 0) (f : ℕ → Bool) (n : ℕ) → ((k : ℕ) → k < n → Decides (P k) (f k)) → Decides ((k : ℕ) × (k < n) × P k) (some f (upTo n))
+dec-any P f n d =
+    dec-iff (λ p. (p .0, among-upTo n .0 (p .1), p .2), λ p. (p .0, among-upTo n .1 (p .1), p .2))
+    (dec-some f P (upTo n) (λ k m. d k (among-upTo n .0 m)))

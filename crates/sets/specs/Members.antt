@@ -9,7 +9,7 @@ use native.Mathlib.Nat.{zero-div, div-eq-of-lt, eq-zero-or-pos, one-mul, pow-suc
 use lib.Arith.{bin-ind}
 use lib.Bits.{and-step, and-shr, or-step, or-shr, and-le-r, or-shifted}
 use lib.Pow.{shr-shr, shl-shr, pow-add, pow-mono, pow-lt, pow-pos}
-use Rattle.sets.specs.Decides.{Decides, decided, dec-iff, dec-not, dec-and, dec-eq}
+use Rattle.sets.specs.Decides.{is-true, Decides, decided, dec-iff, dec-not, dec-and, dec-eq}
 use Rattle.sets.specs.Lists.{_among_, here, later, nowhere, first-or-later}
 use Rattle.sets.specs.Sets.{_∈_, _⊆_, _⊂_, Meets, _∈?_, _⊆?_, _⊂?_, _meets?_, _∩_, _∪_, ∅, full, single, setOf, ⋂, ⋃}
 
@@ -163,6 +163,10 @@ module _ (f : ℕ → Bool) where
         λ m. ⊎-elim (λ q. let (b, e) = one .0 q in (omega arith, ap f e ∙ b)) (λ q. let (l, b) = ih .0 q in (omega arith, b)) (∈-∪ a _ _ .0 m),
         λ p. ∈-∪ a _ _ .1 (⊎-elim (λ e. inl (one .1 (ap f (sym e) ∙ p .1, e))) (λ l. inr (ih .1 (l, p .1))) (eq-or-lt-of-le (le-of-suc-le-suc (p .0)))),
       )
+
+pub ∈-setOf-dec : (P : ℕ → Type 0) (f : ℕ → Bool) → ((a : ℕ) → Decides (P a) (f a)) → (n : ℕ) {a : ℕ} → a ∈ setOf f n ↔ ((a < n) × P a)
+∈-setOf-dec P f d n {a} =
+    (λ m. let (l, e) = ∈-setOf f a n .0 m in (l, d a .yes e), λ p. ∈-setOf f a n .1 (p .0, is-true (d a) (p .1)))
 
 pub setOf-same : (f h : ℕ → Bool) (n : ℕ) → ((a : ℕ) → a < n → f a ≡ h a) → setOf f n ≡ setOf h n
 setOf-same f h n e = ∈-ext (setOf f n) (setOf h n) (λ a. (

@@ -71,6 +71,9 @@ upTo-rising (suc n) =
     pairwise-append _<_ (upTo n) (n ∷ []) (upTo-rising n) (λ y m. absurd (nowhere m), tt)
     (λ x y k m. let l = among-upTo n .0 k in let e = List·Memᴰ·eq-of-singleton m in omega arith)
 
+pub upTo-distinct : (n : ℕ) → Distinct (upTo n)
+upTo-distinct n = pairwise-map (upTo n) (λ x y _ _ l e. omega arith) (upTo-rising n)
+
 pub downFrom-falling : (n : ℕ) → Pairwise (λ i j. j < i) (downFrom n)
 unfolding downFrom
 downFrom-falling zero = tt

@@ -9,9 +9,9 @@ use native.Mathlib.Nat.{mod-eq-of-lt, mod-one, mod-lt, pow-suc, lt-of-not-le, lt
 use lib.Count.{ones, ones-cat, ones-le, onesIn}
 use lib.ListN.{length, length-append}
 use lib.Pow.{mod-pow-add, pow-pos}
-use Rattle.sets.specs.Decides.{decided, is-true, dec-eq}
-use Rattle.sets.specs.Lists.{_among_, keep, keep-snoc, among-keep, only, upTo, among-upTo, first-or-later}
-use Rattle.sets.specs.Pairwise.{upTo-rising, Distinct, pairwise-map, pairwise-keep}
+use Rattle.sets.specs.Decides.{decided, dec-eq}
+use Rattle.sets.specs.Lists.{_among_, keep, keep-snoc, among-kept, only, upTo, first-or-later}
+use Rattle.sets.specs.Pairwise.{upTo-distinct, Distinct, pairwise-keep}
 use Rattle.sets.specs.Counting.{no-longer}
 use Rattle.sets.specs.Sets.{_∈_, _⊆_, _⊂_, _∈?_, size}
 use Rattle.sets.specs.Members.{dec-∈, ∈-below, ⊆-antisym, ⊆-le}
@@ -39,16 +39,15 @@ size-members n x l = ap ones (sym (mod-eq-of-lt l)) ∙ size-mod n x
 pub size-below : (n x : ℕ) → x < 2 ^ n → size x ≤ n
 size-below n x l = ones-le n x l
 
-among-members : {a : ℕ} (n x : ℕ) → x < 2 ^ n → a among members n x ↔ (a ∈ x)
+pub among-members : {a : ℕ} (n x : ℕ) → x < 2 ^ n → a among members n x ↔ (a ∈ x)
 unfolding members
-among-members {a} n x l = (
-  λ m. dec-∈ a x .yes (among-keep _ (upTo n) .0 m .1),
-  λ m. among-keep _ (upTo n) .1 (among-upTo n .1 (∈-below l m), is-true (dec-∈ a x) m),
-)
+among-members n x l =
+    let m = among-kept (λ a. a ∈ x) (λ a. a ∈? x) (λ a. dec-∈ a x) n in
+    (λ q. m .0 q .1, λ q. m .1 (∈-below l q, q))
 
-members-distinct : (n x : ℕ) → Distinct (members n x)
+pub members-distinct : (n x : ℕ) → Distinct (members n x)
 unfolding members
-members-distinct n x = pairwise-keep _ _ (upTo n) (pairwise-map (upTo n) (λ a b _ _ l e. omega arith) (upTo-rising n))
+members-distinct n x = pairwise-keep _ _ (upTo n) (upTo-distinct n)
 
 below-pow : (n : ℕ) → n < 2 ^ n
 below-pow zero = omega arith

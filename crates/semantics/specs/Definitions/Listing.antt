@@ -38,10 +38,6 @@ module _ (s : Setting) where
   abbrev pub testedView : ℕ → Bool
   testedView g = tested g && isVerified (verdict s g)
 
-  -- "each of the six numbers says how many guesses bear its name"
-  abbrev pub count : (ℕ → Bool) → ℕ
-  count f = length (keep f (guesses s))
-
 -- "The result has views, covered, ruled, tested, empty, other."
 pub record Tally : Type 0 where
   pub views : ℕ
@@ -51,15 +47,20 @@ pub record Tally : Type 0 where
   pub empty : ℕ
   pub other : ℕ
 
-unfoldable pub tallyOf : Setting → Tally
-tallyOf s = record {
-  views = count s (isWorldView s);
-  covered = count s (covered s);
-  ruled = count s (ruled s);
-  tested = count s (tested s);
-  empty = count s (testedEmpty s);
-  other = count s (testedOther s);
+-- the six, by how guesses of a name are counted
+abbrev pub tallyBy : Setting → ((ℕ → Bool) → ℕ) → Tally
+tallyBy s count = record {
+  views = count (isWorldView s);
+  covered = count (covered s);
+  ruled = count (ruled s);
+  tested = count (tested s);
+  empty = count (testedEmpty s);
+  other = count (testedOther s);
 }
+
+-- "each of the six numbers says how many guesses bear its name"
+unfoldable pub tallyOf : Setting → Tally
+tallyOf s = tallyBy s (λ f. length (keep f (guesses s)))
 
 -- "four 16-bit words, guess, known, possible, number of sets"
 pub record View : Type 0 where

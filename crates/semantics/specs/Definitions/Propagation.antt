@@ -37,6 +37,7 @@ step n p x = record {
   F = setOf (λ a. a ∈? x .F || entersF p x a) n;
 }
 
+-- from two empty sets, i times
 unfoldable pub steps : ℕ → List Rule → ℕ → Pair
 steps n p zero = record { T = ∅; F = ∅ }
 steps n p (suc i) = step n p (steps n p i)

@@ -7,6 +7,7 @@ use Rattle.sets.specs.Sets.{_∈?_}
 use Rattle.semantics.specs.Definitions.Setting.{Setting}
 use Rattle.semantics.specs.Definitions.Listing.{View, listing}
 
+-- "yes", "no" and "open"
 pub data Answer : Type 0 where
   Yes No Open : Answer
 
@@ -15,5 +16,6 @@ pub data Answer : Type 0 where
 unfoldable pub answer : List View → ℕ → Answer
 answer vs a = cond (every (λ v. a ∈? v .known) vs) Yes (cond (every (λ v. not (a ∈? v .possible)) vs) No Open)
 
+-- "Query of an atom": over the world views of the listing
 abbrev pub query : Setting → ℕ → Answer
 query s a = answer (listing s) a

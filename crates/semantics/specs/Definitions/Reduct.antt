@@ -8,6 +8,7 @@ use Rattle.sets.specs.Sets.{_∈?_, _∪_, setOf}
 use Rattle.semantics.specs.Definitions.Rules.{Rule, EpistemicRule, Subjective, K, notK, M, notM}
 use Rattle.semantics.specs.Definitions.Guesses.{Negation, not-known, may-be, assumed}
 
+-- what the table says is done to a literal
 pub data Action : Type 0 where
   becomes-a becomes-not-a becomes-not-not-a removed rule-deleted : Action
   deriving Discrete as sameAction
@@ -31,22 +32,22 @@ holdsBy es g M a = assumed es g (may-be a)
 holdsBy es g notM a = not (assumed es g (may-be a))
 
 -- Below, `holds` says which literals hold, and n is the number of atoms.
-module _ (n : ℕ) (holds : Subjective → ℕ → Bool) where
-  -- to a literal of a in the rule r the table does x
-  abbrev pub acted : EpistemicRule → Action → ℕ → Bool
-  acted r x a = some (λ m. a ∈? r .mask m && does (sameAction (table m (holds m a)) x)) (K ∷ notK ∷ M ∷ notM ∷ [])
+-- To a literal of a in the rule r the table does x.
+abbrev pub acted : (holds : Subjective → ℕ → Bool) → EpistemicRule → Action → ℕ → Bool
+acted holds r x a = some (λ m. a ∈? r .mask m && does (sameAction (table m (holds m a)) x)) (K ∷ notK ∷ M ∷ notM ∷ [])
 
+module _ (n : ℕ) (holds : Subjective → ℕ → Bool) where
   -- "rule deleted"
   abbrev pub deleted : EpistemicRule → Bool
-  deleted r = some (acted r rule-deleted) (upTo n)
+  deleted r = some (acted holds r rule-deleted) (upTo n)
 
   -- "Masks 0 to 3 stay; masks 4 to 7 are acted on by the guess". A literal that is removed goes nowhere.
   unfoldable pub reductRule : EpistemicRule → Rule
   reductRule r = record {
     head = r .objective .head;
-    plain = r .objective .plain ∪ setOf (acted r becomes-a) n;
-    nots = r .objective .nots ∪ setOf (acted r becomes-not-a) n;
-    notNots = r .objective .notNots ∪ setOf (acted r becomes-not-not-a) n;
+    plain = r .objective .plain ∪ setOf (acted holds r becomes-a) n;
+    nots = r .objective .nots ∪ setOf (acted holds r becomes-not-a) n;
+    notNots = r .objective .notNots ∪ setOf (acted holds r becomes-not-not-a) n;
   }
 
   -- 000, Definition 5: the epistemic reduct

@@ -23,6 +23,7 @@ settingOf n rs =
 abbrev pub k : Setting → ℕ
 k s = length (s .negations)
 
+-- negation j of the setting
 abbrev pub negation : Setting → ℕ → Negation
 negation s j = numbered (s .negations) j
 

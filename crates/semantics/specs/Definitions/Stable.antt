@@ -14,6 +14,7 @@ negationsHold i r = not (r .nots meets? i) && r .notNots ⊆? i
 abbrev pub satisfies : ℕ → Rule → Bool
 satisfies i r = not (r .plain ⊆? i && negationsHold i r) || r .head meets? i
 
+-- a "model of the program": every rule is satisfied
 abbrev pub isModel : List Rule → ℕ → Bool
 isModel p i = every (satisfies i) p
 

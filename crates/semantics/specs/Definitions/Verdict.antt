@@ -30,6 +30,7 @@ foundHas known possible (may-be a) = a ∈? possible
 unfoldable pub guessFound : Setting → List ℕ → ℕ
 guessFound s w = setOf (λ j. foundHas (knownIn s w) (possibleIn w) (negation s j)) (k s)
 
+-- "empty"; "other", with the guess found; "verified", with known, possible and the number of sets
 pub data Verdict : Type 0 where
   empty : Verdict
   other : (found : ℕ) → Verdict
@@ -37,14 +38,15 @@ pub data Verdict : Type 0 where
 
 -- "If W is empty: "empty". [..] If it differs from the guess given: "other", with the guess found. Else "verified", with known, possible
 -- and the number of sets."
-abbrev pub judge : Setting → ℕ → List ℕ → Verdict
-judge s g w =
-    cond (null w) empty
-    (cond (not (eqb (guessFound s w) g)) (other (guessFound s w)) (verified (knownIn s w) (possibleIn w) (length w)))
+abbrev pub judge : (none differs : Bool) → (found known possible sets : ℕ) → Verdict
+judge none differs found known possible sets = cond none empty (cond differs (other found) (verified known possible sets))
 
 unfoldable pub verdict : Setting → ℕ → Verdict
-verdict s g = judge s g (beliefSets s g)
+verdict s g =
+    let w = beliefSets s g in
+    judge (null w) (not (eqb (guessFound s w) g)) (guessFound s w) (knownIn s w) (possibleIn w) (length w)
 
+-- which of the three it is; 'verified' is 000's reduct-verifiable (Definition 5)
 abbrev pub isEmpty : Verdict → Bool
 isEmpty empty = true
 isEmpty (other found) = false
@@ -55,7 +57,6 @@ isOther empty = false
 isOther (other found) = true
 isOther (verified known possible sets) = false
 
--- 000, Definition 5: reduct-verifiable
 abbrev pub isVerified : Verdict → Bool
 isVerified empty = false
 isVerified (other found) = false

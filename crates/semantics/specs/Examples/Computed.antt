@@ -11,7 +11,7 @@ use Rattle.semantics.specs.Definitions.Stable.{reductAt, stable}
 use Rattle.semantics.specs.Definitions.Verdict.{beliefSets, guessFound, verdict, empty, other}
 use Rattle.semantics.specs.Definitions.Propagation.{steps, contradicted}
 use Rattle.semantics.specs.Definitions.Order.{order}
-use Rattle.semantics.specs.Definitions.Listing.{isWorldView, covered, tallyOf, viewOf, viewsAlong, listing}
+use Rattle.semantics.specs.Definitions.Listing.{isWorldView, covered, tallyOf, viewsAlong, listing}
 use Rattle.semantics.specs.Walk.{walk}
 use Rattle.semantics.specs.Examples.Sheets.{Listed, ten, kiln, sheet-2, sheet-3, sheet-6, sheet-7}
 use Rattle.semantics.specs.Examples.Own.{own}
@@ -21,7 +21,7 @@ abbrev pub listed : Setting → Listed
 listed s = record { setting = s; views = listing s; tally = tallyOf s }
 
 abbrev pub walked : Setting → Listed
-walked s = let x = walk s (order (k s)) in record { setting = s; views = map (viewOf s) (x .met); tally = x .tally }
+walked s = let x = walk s (order (k s)) in record { setting = s; views = x .met; tally = x .tally }
 
 abbrev pub sheets : List Listed
 sheets = ten ++ kiln ∷ own

@@ -30,10 +30,10 @@ module _ (n : ℕ) (p : List Rule) where
   }
     where
       sure-rule : {a : ℕ} → a ∈ step n p x .T → (r : Rule) × (r among p) × (a ∈ r .head) × Sure x r
-      sure-rule {a} m = ⊎-elim (λ q. h .why-T q) (λ e. (e .0, e .1, e .2, e .3)) (step-T n p x a .0 m .1)
+      sure-rule {a} m = ⊎-elim (λ q. h .why-T q) (λ e. (e .0, e .1, e .2, e .3)) (step-T n p x .0 m .1)
 
       dead-rules : {a : ℕ} → a ∈ step n p x .F → EntersF p x a
-      dead-rules {a} m = ⊎-elim (λ q. h .why-F q) (λ e. e) (step-F n p x a .0 m .1)
+      dead-rules {a} m = ⊎-elim (λ q. h .why-F q) (λ e. e) (step-F n p x .0 m .1)
 
   stage-apart : (i : ℕ) → Apart (steps n p i)
   unfolding steps

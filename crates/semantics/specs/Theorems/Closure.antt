@@ -6,10 +6,10 @@ use mathlib.Core.List.{List}
 use mathlib.Core.Logic.{_↔_, _⊎_, inl, inr, ⊎-elim}
 use native.Mathlib.Omega.{arith}
 use lib.Pow.{pow-pos}
-use Rattle.sets.specs.Decides.{Decides, is-true, decided, dec-iff, dec-and, dec-or, dec-imp, dec-eq}
+use Rattle.sets.specs.Decides.{Decides, decided, dec-iff, dec-and, dec-or, dec-imp, dec-eq}
 use Rattle.sets.specs.Lists.{_among_, dec-every, dec-some}
 use Rattle.sets.specs.Sets.{_∈_, _⊆_, Meets, _⊆?_, _∪_, single, size}
-use Rattle.sets.specs.Members.{dec-∈, ∈-below, ∈-∪, ⊆-trans, ⊆-antisym, ∅-⊆, dec-⊆, dec-meets, meets-⊆, ∈-single, setOf-below, ∈-setOf}
+use Rattle.sets.specs.Members.{dec-∈, ∈-below, ∈-∪, ⊆-trans, ⊆-antisym, ∅-⊆, dec-⊆, dec-meets, meets-⊆, ∈-single, setOf-below, ∈-setOf-dec}
 use Rattle.sets.specs.Size.{size-below, size-⊆, size-⊂}
 use Rattle.semantics.specs.Definitions.Rules.{Rule}
 use Rattle.semantics.specs.Definitions.Propagation.{Pair, sure, dead, entersT, entersF, step, steps, propagated}
@@ -83,15 +83,11 @@ module _ {x y : Pair} (w : Within x y) where
 
 module _ (n : ℕ) (p : List Rule) where
   -- ---- a step adds what enters
-  pub step-T : (x : Pair) (a : ℕ) → a ∈ step n p x .T ↔ ((a < n) × ((a ∈ x .T) ⊎ EntersT p x a))
-  step-T x a =
-      let d = dec-or (dec-∈ a (x .T)) (dec-enters-T p x a) in
-      (λ m. let (l, e) = ∈-setOf _ a n .0 m in (l, d .yes e), λ q. ∈-setOf _ a n .1 (q .0, is-true d (q .1)))
+  pub step-T : (x : Pair) {a : ℕ} → a ∈ step n p x .T ↔ ((a < n) × ((a ∈ x .T) ⊎ EntersT p x a))
+  step-T x = ∈-setOf-dec (λ a. (a ∈ x .T) ⊎ EntersT p x a) _ (λ a. dec-or (dec-∈ a (x .T)) (dec-enters-T p x a)) n
 
-  pub step-F : (x : Pair) (a : ℕ) → a ∈ step n p x .F ↔ ((a < n) × ((a ∈ x .F) ⊎ EntersF p x a))
-  step-F x a =
-      let d = dec-or (dec-∈ a (x .F)) (dec-enters-F p x a) in
-      (λ m. let (l, e) = ∈-setOf _ a n .0 m in (l, d .yes e), λ q. ∈-setOf _ a n .1 (q .0, is-true d (q .1)))
+  pub step-F : (x : Pair) {a : ℕ} → a ∈ step n p x .F ↔ ((a < n) × ((a ∈ x .F) ⊎ EntersF p x a))
+  step-F x = ∈-setOf-dec (λ a. (a ∈ x .F) ⊎ EntersF p x a) _ (λ a. dec-or (dec-∈ a (x .F)) (dec-enters-F p x a)) n
 
   -- every stage is within every closed pair
   stage-within : {y : Pair} → Closed n p y → (i : ℕ) → Within (steps n p i) y
@@ -101,8 +97,8 @@ module _ (n : ℕ) (p : List Rule) where
       let w = stage-within c i in
       let x = steps n p i in
       record {
-        in-T = record { into = λ {a} m. let (l, e) = step-T x a .0 m in ⊎-elim (λ q. w .in-T .into q) (λ q. c .has-T l (enters-T-more w q)) e };
-        in-F = record { into = λ {a} m. let (l, e) = step-F x a .0 m in ⊎-elim (λ q. w .in-F .into q) (λ q. c .has-F l (enters-F-more w q)) e };
+        in-T = record { into = λ {a} m. let (l, e) = step-T x .0 m in ⊎-elim (λ q. w .in-T .into q) (λ q. c .has-T l (enters-T-more w q)) e };
+        in-F = record { into = λ {a} m. let (l, e) = step-F x .0 m in ⊎-elim (λ q. w .in-F .into q) (λ q. c .has-F l (enters-F-more w q)) e };
       }
 
   -- ---- the stages grow until a step changes nothing
@@ -111,8 +107,8 @@ module _ (n : ℕ) (p : List Rule) where
 
   fixed-closed : {x : Pair} → Fixed x → Closed n p x
   fixed-closed {x} e = record {
-    has-T = λ {a} l q. subst (λ z. a ∈ z) (sym (e .0)) (step-T x a .1 (l, inr q));
-    has-F = λ {a} l q. subst (λ z. a ∈ z) (sym (e .1)) (step-F x a .1 (l, inr q));
+    has-T = λ {a} l q. subst (λ z. a ∈ z) (sym (e .0)) (step-T x .1 (l, inr q));
+    has-F = λ {a} l q. subst (λ z. a ∈ z) (sym (e .1)) (step-F x .1 (l, inr q));
   }
 
   fixed-next : (x : Pair) → Fixed x → Fixed (step n p x)
@@ -134,8 +130,8 @@ module _ (n : ℕ) (p : List Rule) where
 
   pub grows : (x : Pair) → x .T < 2 ^ n → x .F < 2 ^ n → Within x (step n p x)
   grows x t f = record {
-    in-T = record { into = λ {a} m. step-T x a .1 (∈-below t m, inl m) };
-    in-F = record { into = λ {a} m. step-F x a .1 (∈-below f m, inl m) };
+    in-T = record { into = λ {a} m. step-T x .1 (∈-below t m, inl m) };
+    in-F = record { into = λ {a} m. step-F x .1 (∈-below f m, inl m) };
   }
 
   grows-more : (x : Pair) → Within x (step n p x) → (Fixed x → ⊥) → measure x < measure (step n p x)

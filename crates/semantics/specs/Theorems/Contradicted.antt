@@ -5,44 +5,42 @@ use mathlib.Core.Bool.{not, _&&_}
 use mathlib.Core.List.{List}
 use mathlib.Core.Logic.{_↔_, _⊎_, inl, inr, ⊎-elim}
 use lib.Dec.{eqb}
-use Rattle.sets.specs.Decides.{Decides, is-true, decided, dec-not, dec-and, dec-or, dec-if, dec-eq}
+use Rattle.sets.specs.Decides.{Decides, decided, dec-not, dec-and, dec-or, dec-if, dec-eq}
 use Rattle.sets.specs.Lists.{_among_, dec-some, dec-any}
 use Rattle.sets.specs.Sets.{_∈_, _⊆_, _⊂_, Meets, _∈?_, ∅, setOf}
-use Rattle.sets.specs.Members.{dec-∈, ∈-below, ∈-∅, ⊆-trans, dec-meets, ∈-setOf}
+use Rattle.sets.specs.Members.{dec-∈, ∈-below, ∈-∅, ⊆-trans, dec-meets, ∈-setOf-dec}
 use Rattle.semantics.specs.Definitions.Rules.{Rule}
 use Rattle.semantics.specs.Definitions.Guesses.{Negation, not-known, may-be}
 use Rattle.semantics.specs.Definitions.Setting.{Setting, k, negation}
 use Rattle.semantics.specs.Definitions.Verdict.{beliefSets}
 use Rattle.semantics.specs.Definitions.Propagation.{Pair, propagated, clashes, contradicted}
-use Rattle.semantics.specs.Theorems.Stable.{NegationsHold, ReducedModel, Stable, reduced-model, belief-sets}
+use Rattle.semantics.specs.Theorems.Stable.{NegationsHold, ReducedModel, Stable, reduced-model, among-belief-sets}
 use Rattle.semantics.specs.Theorems.Verdict.{Satisfied, Verifiable}
-use Rattle.semantics.specs.Theorems.Closure.{Sure, Dead, Closed, dec-sure, propagated-least}
+use Rattle.semantics.specs.Theorems.Closure.{Sure, Dead, Closed, dec-sure, sure-more, propagated-least}
 
 -- ---- a stable set, and what is outside it, are a closed pair
 module _ (n : ℕ) (p : List Rule) (i : ℕ) (l : i < 2 ^ n) (st : Stable p i) where
   outside : ℕ
   outside = setOf (λ a. not (a ∈? i)) n
 
-  ∈-outside : (a : ℕ) → a ∈ outside ↔ ((a < n) × (a ∈ i → ⊥))
+  ∈-outside : {a : ℕ} → a ∈ outside ↔ ((a < n) × (a ∈ i → ⊥))
   unfolding outside
-  ∈-outside a =
-      let d = dec-not (dec-∈ a i) in
-      (λ m. let (h, e) = ∈-setOf _ a n .0 m in (h, d .yes e), λ q. ∈-setOf _ a n .1 (q .0, is-true d (q .1)))
+  ∈-outside = ∈-setOf-dec (λ a. a ∈ i → ⊥) _ (λ a. dec-not (dec-∈ a i)) n
 
   -- i without a
   less : ℕ → ℕ
   less a = setOf (λ b. b ∈? i && not (eqb b a)) n
 
-  ∈-less : (a b : ℕ) → b ∈ less a ↔ ((b ∈ i) × (b ≡ a → ⊥))
+  ∈-less : (a : ℕ) {b : ℕ} → b ∈ less a ↔ ((b ∈ i) × (b ≡ a → ⊥))
   unfolding less
-  ∈-less a b =
-      let d = dec-and (dec-∈ b i) (dec-not (dec-eq b a)) in
-      (λ m. d .yes (∈-setOf _ b n .0 m .1), λ q. ∈-setOf _ b n .1 (∈-below l (q .0), is-true d q))
+  ∈-less a =
+      let m = ∈-setOf-dec (λ b. (b ∈ i) × (b ≡ a → ⊥)) _ (λ b. dec-and (dec-∈ b i) (dec-not (dec-eq b a))) n in
+      (λ q. m .0 q .1, λ q. m .1 (∈-below l (q .0), q))
 
   less-⊂ : (a : ℕ) → a ∈ i → less a ⊂ i
   less-⊂ a m = record {
-    within = record { into = λ {a = b} q. ∈-less a b .0 q .0 };
-    differ = λ e. ∈-less a a .0 (subst (λ z. a ∈ z) (sym e) m) .1 refl;
+    within = record { into = λ q. ∈-less a .0 q .0 };
+    differ = λ e. ∈-less a .0 (subst (λ z. a ∈ z) (sym e) m) .1 refl;
   }
 
   parted : Pair
@@ -53,12 +51,12 @@ module _ (n : ℕ) (p : List Rule) (i : ℕ) (l : i < 2 ^ n) (st : Stable p i) w
 
   sure-holds : (r : Rule) → Sure parted r → NegationsHold i r × (r .plain ⊆ i)
   unfolding parted
-  sure-holds r s = (((λ m. ∈-outside (m .common) .0 (s .2 .into (m .left)) .1 (m .right)), s .1), s .0)
+  sure-holds r s = (((λ m. ∈-outside .0 (s .2 .into (m .left)) .1 (m .right)), s .1), s .0)
 
   dead-fails : (r : Rule) → Dead parted r → NegationsHold i r → r .plain ⊆ i → ⊥
   unfolding parted
-  dead-fails r (inl (inl m)) h b = ∈-outside (m .common) .0 (m .right) .1 (b .into (m .left))
-  dead-fails r (inl (inr m)) h b = ∈-outside (m .common) .0 (m .right) .1 (h .1 .into (m .left))
+  dead-fails r (inl (inl m)) h b = ∈-outside .0 (m .right) .1 (b .into (m .left))
+  dead-fails r (inl (inr m)) h b = ∈-outside .0 (m .right) .1 (h .1 .into (m .left))
   dead-fails r (inr m) h b = h .0 m
 
   parted-closed : Closed n p parted
@@ -68,15 +66,15 @@ module _ (n : ℕ) (p : List Rule) (i : ℕ) (l : i < 2 ^ n) (st : Stable p i) w
         let (r, m, _, s, others) = e in
         let (holds, body) = sure-holds r s in
         let x = model r m holds body in
-        ⊎-elim (λ z. subst (λ b. b ∈ i) z (x .right)) (λ z. absurd (∈-outside (x .common) .0 (others (x .common) (x .left) z) .1 (x .right))) (decided (dec-eq (x .common) a));
-    has-F = λ {a} h f. ∈-outside a .1 (
+        ⊎-elim (λ z. subst (λ b. b ∈ i) z (x .right)) (λ z. absurd (∈-outside .0 (others (x .common) (x .left) z) .1 (x .right))) (decided (dec-eq (x .common) a));
+    has-F = λ {a} h f. ∈-outside .1 (
       h,
       λ u.
           st .minimal (less a) (less-⊂ a u) (reduced-model p i (less a) .1 (λ r m holds body.
           let whole = ⊆-trans body (less-⊂ a u .within) in
           let x = model r m holds whole in
           ⊎-elim (λ z. absurd (dead-fails r (f r m (subst (λ b. b ∈ r .head) z (x .left))) holds whole))
-          (λ z. record { common = x .common; left = x .left; right = ∈-less a (x .common) .1 (x .right, z) }) (decided (dec-eq (x .common) a)))),
+          (λ z. record { common = x .common; left = x .left; right = ∈-less a .1 (x .right, z) }) (decided (dec-eq (x .common) a)))),
     );
   }
 
@@ -84,9 +82,13 @@ module _ (n : ℕ) (p : List Rule) (i : ℕ) (l : i < 2 ^ n) (st : Stable p i) w
   unfolding parted
   stable-T = propagated-least n p parted-closed .in-T
 
+  -- a sure rule's body holds in i
+  pub stable-sure : (r : Rule) → Sure (propagated n p) r → NegationsHold i r × (r .plain ⊆ i)
+  stable-sure r s = sure-holds r (sure-more (propagated-least n p parted-closed) r s)
+
   pub stable-F : {a : ℕ} → a ∈ propagated n p .F → a ∈ i → ⊥
   unfolding parted
-  stable-F {a} m = ∈-outside a .0 (propagated-least n p parted-closed .in-F .into m) .1
+  stable-F {a} m = ∈-outside .0 (propagated-least n p parted-closed .in-F .into m) .1
 
 -- ---- contradicted guesses
 abbrev pub Clash : (j g : ℕ) → Negation → Pair → Type 0
@@ -115,15 +117,16 @@ module _ (s : Setting) (g : ℕ) where
 
   -- a belief set contains T and no atom of F
   pub believed-T : {i : ℕ} → i among beliefSets s g → pairOf .T ⊆ i
-  believed-T {i} m = let (l, st) = belief-sets s g .0 m in stable-T (s .atoms) (s .program g) i l st
+  believed-T {i} m = let (l, st) = among-belief-sets s g .0 m in stable-T (s .atoms) (s .program g) i l st
 
   pub believed-F : {i a : ℕ} → i among beliefSets s g → a ∈ pairOf .F → a ∈ i → ⊥
-  believed-F {i} m = let (l, st) = belief-sets s g .0 m in stable-F (s .atoms) (s .program g) i l st
+  believed-F {i} m = let (l, st) = among-belief-sets s g .0 m in stable-F (s .atoms) (s .program g) i l st
 
   no-empty-head : {i : ℕ} → i among beliefSets s g → EmptyHead (s .program g) pairOf → ⊥
   no-empty-head {i} m (r, n, (sr, e)) =
-      let x = reduced-model (s .program g) i i .0 (belief-sets s g .0 m .1 .model) r n
-      ((λ y. believed-F m (sr .2 .into (y .left)) (y .right)), ⊆-trans (sr .1) (believed-T m)) (⊆-trans (sr .0) (believed-T m)) in
+      let (l, st) = among-belief-sets s g .0 m in
+      let (holds, body) = stable-sure (s .atoms) (s .program g) i l st r sr in
+      let x = reduced-model (s .program g) i i .0 (st .model) r n holds body in
       ∈-∅ (subst (λ z. x .common ∈ z) e (x .left))
 
   no-clash : (j : ℕ) (e : Negation) → (i : ℕ) × (i among beliefSets s g) → (j ∈ g) ↔ Satisfied (beliefSets s g) e → Clash j g e pairOf → ⊥

@@ -1,7 +1,7 @@
 -- The list of views: one for each world view and no other, larger guesses first; none exactly when no guess is verified. Assumes nothing.
 use Prim.Native.Nat.{ℕ, _^_, _≤_, _<_}
-use mathlib.Core.Path.{_≡_, refl, ap, _∙_}
-use mathlib.Core.List.{List, [], map}
+use mathlib.Core.Path.{_≡_, refl, _∙_}
+use mathlib.Core.List.{List, []}
 use mathlib.Core.Logic.{_↔_}
 use lib.ListN.{length, length-map}
 use Rattle.sets.specs.Decides.{is-true}
@@ -10,23 +10,26 @@ use Rattle.sets.specs.Pairwise.{Pairwise, pairwise-keep, pairwise-mapped}
 use Rattle.sets.specs.Sets.{size}
 use Rattle.semantics.specs.Definitions.Setting.{Setting, k}
 use Rattle.semantics.specs.Definitions.Verdict.{verified, verdict}
-use Rattle.semantics.specs.Definitions.Order.{order, Before, Enumerates}
+use Rattle.semantics.specs.Definitions.Order.{order}
 use Rattle.semantics.specs.Definitions.Listing.{isWorldView, tallyOf, View, viewOf, viewsAlong, listing}
-use Rattle.semantics.specs.Walk.{walk}
 use Rattle.semantics.specs.Theorems.Verdict.{Verifiable, dec-verifiable, verified-verdict}
 use Rattle.semantics.specs.Theorems.WorldView.{WorldView, definition-6, maximal-superset}
-use Rattle.semantics.specs.Theorems.Order.{order-sorted}
-use Rattle.semantics.specs.Theorems.Walk.{count-along, walk-is}
+use Rattle.semantics.specs.Theorems.Order.{Before, Enumerates, order-sorted}
+use Rattle.semantics.specs.Theorems.Walk.{count-along}
 
 module _ (s : Setting) where
   -- "Known, possible and number of sets are those of the verdict on that guess"
   pub view-verdict : (g : ℕ) → g < 2 ^ k s → WorldView s g → verdict s g ≡ verified (viewOf s g .known) (viewOf s g .possible) (viewOf s g .sets)
   view-verdict g l w = verified-verdict s g (is-true (dec-verifiable s g l) (w .verifiable))
 
+  -- what relates the guesses of a list relates its views
+  views-pairwise : (R : ℕ → ℕ → Type 0) (l : List ℕ) → Pairwise R l → Pairwise (λ v w. R (v .guess) (w .guess)) (viewsAlong s l)
+  unfolding viewsAlong
+  views-pairwise R l p = pairwise-mapped _ (viewOf s) (keep (isWorldView s) l) (pairwise-keep R (isWorldView s) l p)
+
   -- in the order itself: size falling, then number rising
   pub listing-sorted : Pairwise (λ v w. Before (v .guess) (w .guess)) (listing s)
-  unfolding viewsAlong
-  listing-sorted = pairwise-mapped _ (viewOf s) (keep (isWorldView s) (order (k s))) (pairwise-keep _ _ (order (k s)) (order-sorted (k s)))
+  listing-sorted = views-pairwise Before (order (k s)) (order-sorted (k s))
 
   module _ (l : List ℕ) (en : Enumerates (k s) l) where
     -- one for each world view and no other
@@ -42,13 +45,11 @@ module _ (s : Setting) where
 
     -- no guess gets a second one
     pub views-once : Pairwise (λ v w. v .guess ≡ w .guess → ⊥) (viewsAlong s l)
-    unfolding viewsAlong
-    views-once = pairwise-mapped _ (viewOf s) (keep (isWorldView s) l) (pairwise-keep _ _ l (en .once))
+    views-once = views-pairwise (λ g h. g ≡ h → ⊥) l (en .once)
 
     -- larger guesses first
     pub views-falling : Pairwise (λ v w. size (w .guess) ≤ size (v .guess)) (viewsAlong s l)
-    unfolding viewsAlong
-    views-falling = pairwise-mapped _ (viewOf s) (keep (isWorldView s) l) (pairwise-keep _ _ l (en .larger-first))
+    views-falling = views-pairwise (λ g h. size h ≤ size g) l (en .larger-first)
 
     -- none exactly when no guess is reduct-verifiable
     pub views-none : (viewsAlong s l ≡ []) ↔ ((g : ℕ) → g < 2 ^ k s → Verifiable s g → ⊥)
@@ -61,11 +62,3 @@ module _ (s : Setting) where
     pub views-long : length (viewsAlong s l) ≡ tallyOf s .views
     unfolding viewsAlong tallyOf
     views-long = length-map (keep (isWorldView s) l) (viewOf s) ∙ count-along s l en (isWorldView s)
-
-    -- and the walk finds them
-    pub walk-views : map (viewOf s) (walk s l .met) ≡ viewsAlong s l
-    unfolding viewsAlong
-    walk-views = ap (λ x. map (viewOf s) (x .met)) (walk-is s l en)
-
-    pub walk-tally : walk s l .tally ≡ tallyOf s
-    walk-tally = ap (λ x. x .tally) (walk-is s l en)

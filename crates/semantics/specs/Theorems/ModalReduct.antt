@@ -36,7 +36,7 @@ module _ (n : ℕ) (u v : Subjective → ℕ → Bool) where
   abbrev Agree : EpistemicRule → Type 0
   Agree r = (m : Subjective) (a : ℕ) → a < n → a ∈ r .mask m → u m a ≡ v m a
 
-  acted-same : (r : EpistemicRule) → Agree r → (x : Action) (a : ℕ) → a < n → acted n u r x a ≡ acted n v r x a
+  acted-same : (r : EpistemicRule) → Agree r → (x : Action) (a : ℕ) → a < n → acted u r x a ≡ acted v r x a
   acted-same r f x a l = some-same _ _ (K ∷ notK ∷ M ∷ notM ∷ []) (λ m _. go m (a ∈? r .mask m) refl)
     where
       go : (m : Subjective) (b : Bool) → (a ∈? r .mask m) ≡ b → b && does (sameAction (table m (u m a)) x) ≡ b && does (sameAction (table m (v m a)) x)

@@ -2,18 +2,29 @@
 use Prim.Native.Nat.{ℕ, suc, _^_, _≤_, _<_}
 use mathlib.Core.Path.{_≡_, refl, sym, _∙_, subst}
 use mathlib.Core.List.{List}
-use mathlib.Core.Logic.{_↔_, inl, inr}
+use mathlib.Core.Logic.{_↔_, _⊎_, inl, inr}
 use native.Mathlib.Omega.{arith}
 use native.Mathlib.Nat.{lt-of-lt-of-le}
 use lib.Dec.{eqb, ltb}
 use lib.Pow.{pow-mono}
 use borrow.Author.Tests.{ltb-true, lt-ltb}
-use Rattle.sets.specs.Decides.{is-true, dec-eq}
-use Rattle.sets.specs.Lists.{_among_, keep, among-keep, upTo, among-upTo, downFrom, among-downFrom, among-flat}
-use Rattle.sets.specs.Pairwise.{upTo-rising, downFrom-falling, Pairwise, pairwise-map, pairwise-keep, pairwise-flat, sorted-same}
+use Rattle.sets.specs.Decides.{dec-eq}
+use Rattle.sets.specs.Lists.{_among_, keep, among-keep, among-kept, upTo, downFrom, among-downFrom, among-flat}
+use Rattle.sets.specs.Pairwise.{upTo-rising, downFrom-falling, Pairwise, Distinct, pairwise-map, pairwise-keep, pairwise-flat, sorted-same}
 use Rattle.sets.specs.Sets.{size}
 use Rattle.sets.specs.Size.{size-below}
-use Rattle.semantics.specs.Definitions.Order.{order, Before, Enumerates}
+use Rattle.semantics.specs.Definitions.Order.{order}
+
+-- g stands before h in the order
+abbrev pub Before : ℕ → ℕ → Type 0
+Before g h = (size h < size g) ⊎ ((size g ≡ size h) × (g < h))
+
+-- What the theorems on the listing ask of an order of guesses: it has every guess of k negations, each once, and those of larger size first.
+pub record Enumerates (k : ℕ) (l : List ℕ) : Type 0 where
+  pub below : (g : ℕ) → g among l → g < 2 ^ k
+  pub all : (g : ℕ) → g < 2 ^ k → g among l
+  pub once : Distinct l
+  pub larger-first : Pairwise (λ g h. size h ≤ size g) l
 
 -- the order is strict
 pub before-strict : (g h : ℕ) → Before g h → Before h g → ⊥
@@ -37,10 +48,7 @@ sorted-enumerates k l p f = record {
 
 -- the guesses of k negations and of size j
 among-size : (k j : ℕ) {g : ℕ} → g among keep (λ g. eqb (size g) j) (upTo (2 ^ k)) ↔ ((g < 2 ^ k) × (size g ≡ j))
-among-size k j {g} = (
-  λ m. let (a, e) = among-keep _ (upTo (2 ^ k)) .0 m in (among-upTo (2 ^ k) .0 a, dec-eq (size g) j .yes e),
-  λ p. among-keep _ (upTo (2 ^ k)) .1 (among-upTo (2 ^ k) .1 (p .0), is-true (dec-eq (size g) j) (p .1)),
-)
+among-size k j = among-kept (λ g. size g ≡ j) _ (λ g. dec-eq (size g) j) (2 ^ k)
 
 pub among-order : (k : ℕ) {g : ℕ} → g among order k ↔ (g < 2 ^ k)
 unfolding order

@@ -12,13 +12,13 @@ use Rattle.semantics.specs.Definitions.Verdict.{beliefSets, knownIn, pos
 use Rattle.semantics.specs.Definitions.Order.{order}
 use Rattle.semantics.specs.Definitions.Listing.{View, viewOf, listing}
 use Rattle.semantics.specs.Definitions.Query.{Yes, No, Open, answer, query}
-use Rattle.semantics.specs.Theorems.Verdict.{known-is, within}
+use Rattle.semantics.specs.Theorems.Verdict.{known-is, belief-below}
 use Rattle.semantics.specs.Theorems.WorldView.{WorldView}
 use Rattle.semantics.specs.Theorems.Order.{order-enumerates}
 use Rattle.semantics.specs.Theorems.Listing.{among-views}
 
-listed : (s : Setting) {v : View} → v among listing s ↔ ((g : ℕ) × (g < 2 ^ k s) × WorldView s g × (v ≡ viewOf s g))
-listed s = among-views s (order (k s)) (order-enumerates (k s))
+among-listing : (s : Setting) {v : View} → v among listing s ↔ ((g : ℕ) × (g < 2 ^ k s) × WorldView s g × (v ≡ viewOf s g))
+among-listing s = among-views s (order (k s)) (order-enumerates (k s))
 
 -- P of every belief set of every world view
 abbrev pub InAll : Setting → (ℕ → Type 0) → Type 0
@@ -30,18 +30,20 @@ over-views : (s : Setting) (P : ℕ → Type 0) (f : View → Bool)
 over-views s P f d =
     let Q : View → Type 0 = λ v. (i : ℕ) → i among beliefSets s (v .guess) → P i in
     dec-iff (
-      λ h g l w. h (viewOf s g) (listed s .1 (g, l, w, refl)),
-      λ h v m. let (g, l, w, e) = listed s .0 m in subst Q (sym e) (h g l w),
+      λ h g l w. h (viewOf s g) (among-listing s .1 (g, l, w, refl)),
+      λ h v m. let (g, l, w, e) = among-listing s .0 m in subst Q (sym e) (h g l w),
     ) (dec-every f Q (listing s)
-    (λ v m. let (g, l, w, e) = listed s .0 m in subst (λ x. Decides (Q x) (f x)) (sym e) (d g l w)))
+    (λ v m. let (g, l, w, e) = among-listing s .0 m in subst (λ x. Decides (Q x) (f x)) (sym e) (d g l w)))
 
 module _ (s : Setting) (a : ℕ) where
-  dec-known : Decides (InAll s (λ i. a ∈ i)) (every (λ v. a ∈? v .known) (listing s))
+  -- known in every world view
+  pub dec-known : Decides (InAll s (λ i. a ∈ i)) (every (λ v. a ∈? v .known) (listing s))
   dec-known =
       over-views s (λ i. a ∈ i) (λ v. a ∈? v .known)
-      (λ g l w. dec-iff (known-is s (beliefSets s g) (within s g) (w .verifiable .non-empty) a) (dec-∈ a (knownIn s (beliefSets s g))))
+      (λ g l w. dec-iff (known-is s (beliefSets s g) (belief-below s g) (w .verifiable .non-empty) a) (dec-∈ a (knownIn s (beliefSets s g))))
 
-  dec-impossible : Decides (InAll s (λ i. a ∈ i → ⊥)) (every (λ v. not (a ∈? v .possible)) (listing s))
+  -- possible in none
+  pub dec-impossible : Decides (InAll s (λ i. a ∈ i → ⊥)) (every (λ v. not (a ∈? v .possible)) (listing s))
   dec-impossible =
       over-views s (λ i. a ∈ i → ⊥) (λ v. not (a ∈? v .possible))
       (λ g l w. dec-iff (λ n i m h. n (∈-⋃ a (beliefSets s g) .1 (i, m, h)), λ f h. let (i, m, q) = ∈-⋃ a (beliefSets s g) .0 h in f i m q)

@@ -7,7 +7,7 @@ use mathlib.Core.Logic.{_↔_, _⊎_, inl, inr, ⊎-elim}
 use Rattle.sets.specs.Decides.{Decides, is-true, dec-iff, dec-not, dec-and, dec-does}
 use Rattle.sets.specs.Lists.{_among_, here, later, keep, among-keep, among-map, dec-some, dec-any}
 use Rattle.sets.specs.Sets.{_∈_, _∪_, setOf}
-use Rattle.sets.specs.Members.{dec-∈, ∈-∪, ∈-setOf}
+use Rattle.sets.specs.Members.{dec-∈, ∈-∪, ∈-setOf-dec}
 use Rattle.semantics.specs.Definitions.Rules.{Rule, EpistemicRule, Subjective, K, notK, M, notM}
 use Rattle.semantics.specs.Definitions.Reduct.{Action, becomes-a, becomes-not-a, becomes-not-not-a, rule-deleted, sameAction, table, acted, deleted, reductRule, reduct}
 
@@ -17,50 +17,54 @@ every-kind notK = later here
 every-kind M = later (later here)
 every-kind notM = later (later (later here))
 
-module _ (n : ℕ) (holds : Subjective → ℕ → Bool) where
-  -- the rule has a literal of a to which the table does x
-  abbrev pub Acted : EpistemicRule → Action → ℕ → Type 0
-  Acted r x a = (m : Subjective) × (a ∈ r .mask m) × (table m (holds m a) ≡ x)
+-- the rule has a literal of a to which the table does x
+abbrev pub Acted : (holds : Subjective → ℕ → Bool) → EpistemicRule → Action → ℕ → Type 0
+Acted holds r x a = (m : Subjective) × (a ∈ r .mask m) × (table m (holds m a) ≡ x)
 
-  pub dec-acted : (r : EpistemicRule) (x : Action) (a : ℕ) → Decides (Acted r x a) (acted n holds r x a)
+module _ (n : ℕ) (holds : Subjective → ℕ → Bool) where
+  dec-acted : (r : EpistemicRule) (x : Action) (a : ℕ) → Decides (Acted holds r x a) (acted holds r x a)
   dec-acted r x a =
       dec-iff (λ q. (q .0, q .2 .0, q .2 .1), λ q. (q .0, every-kind (q .0), (q .1, q .2)))
       (dec-some _ _ (K ∷ notK ∷ M ∷ notM ∷ []) (λ m _. dec-and (dec-∈ a (r .mask m)) (dec-does (sameAction (table m (holds m a)) x))))
 
-  pub dec-deleted : (r : EpistemicRule) → Decides ((a : ℕ) × (a < n) × Acted r rule-deleted a) (deleted n holds r)
+  abbrev pub Deleted : EpistemicRule → Type 0
+  Deleted r = (a : ℕ) × (a < n) × Acted holds r rule-deleted a
+
+  dec-deleted : (r : EpistemicRule) → Decides (Deleted r) (deleted n holds r)
   dec-deleted r = dec-any _ _ n (λ a _. dec-acted r rule-deleted a)
 
   -- what an objective mask has in the reduct: its own atoms, and those that the table brings there
   abbrev pub Brought : EpistemicRule → Action → (own a : ℕ) → Type 0
-  Brought r x own a = (a ∈ own) ⊎ ((a < n) × Acted r x a)
+  Brought r x own a = (a ∈ own) ⊎ ((a < n) × Acted holds r x a)
 
-  brought : (r : EpistemicRule) (x : Action) (own a : ℕ) → a ∈ own ∪ setOf (acted n holds r x) n ↔ Brought r x own a
-  brought r x own a = (
-    λ m. ⊎-elim inl (λ q. let (l, e) = ∈-setOf _ a n .0 q in inr (l, dec-acted r x a .yes e)) (∈-∪ a own _ .0 m),
-    λ p. ∈-∪ a own _ .1 (⊎-elim inl (λ q. inr (∈-setOf _ a n .1 (q .0, is-true (dec-acted r x a) (q .1)))) p),
-  )
+  brought : (r : EpistemicRule) (x : Action) (own a : ℕ) → a ∈ own ∪ setOf (acted holds r x) n ↔ Brought r x own a
+  brought r x own a =
+      let t = ∈-setOf-dec (Acted holds r x) (acted holds r x) (dec-acted r x) n in
+      (λ m. ⊎-elim inl (λ q. inr (t .0 q)) (∈-∪ a own _ .0 m), λ p. ∈-∪ a own _ .1 (⊎-elim inl (λ q. inr (t .1 q)) p))
 
-  pub record ReductRule (r : EpistemicRule) (q : Rule) : Type 0 where
+  -- q is what the table makes of the rule r
+  pub record Reduces (r : EpistemicRule) (q : Rule) : Type 0 where
     pub head : q .head ≡ r .objective .head
     pub plain : (a : ℕ) → a ∈ q .plain ↔ Brought r becomes-a (r .objective .plain) a
     pub nots : (a : ℕ) → a ∈ q .nots ↔ Brought r becomes-not-a (r .objective .nots) a
     pub notNots : (a : ℕ) → a ∈ q .notNots ↔ Brought r becomes-not-not-a (r .objective .notNots) a
 
-  pub reduct-rule : (r : EpistemicRule) → ReductRule r (reductRule n holds r)
+  pub rule-reduces : (r : EpistemicRule) → Reduces r (reductRule n holds r)
   unfolding reductRule
-  reduct-rule r = record {
+  rule-reduces r = record {
     head = refl;
     plain = brought r becomes-a (r .objective .plain);
     nots = brought r becomes-not-a (r .objective .nots);
     notNots = brought r becomes-not-not-a (r .objective .notNots);
   }
 
-  -- the rules that stay, each as that
-  pub among-reduct : (rs : List EpistemicRule) {q : Rule} → q among reduct n holds rs ↔ ((r : EpistemicRule) × (r among rs) × ((a : ℕ) × (a < n) × Acted r rule-deleted a → ⊥) × (q ≡ reductRule n holds r))
+  -- the rules that are not deleted, each as that
+  pub among-reduct : (rs : List EpistemicRule) {q : Rule} → q among reduct n holds rs ↔ ((r : EpistemicRule) × (r among rs) × (Deleted r → ⊥) × (q ≡ reductRule n holds r))
   unfolding reduct
-  among-reduct rs = (
-    λ m. let (r, k, e) = among-map (reductRule n holds) (keep (λ r. not (deleted n holds r)) rs) .0 m in
-        let (h, d) = among-keep _ rs .0 k in (r, h, dec-not (dec-deleted r) .yes d, e),
-    λ p. let (r, h, d, e) = p in
-        among-map (reductRule n holds) (keep (λ r. not (deleted n holds r)) rs) .1 (r, among-keep _ rs .1 (h, is-true (dec-not (dec-deleted r)) d), e),
-  )
+  among-reduct rs =
+      let kept : EpistemicRule → Bool = λ r. not (deleted n holds r) in (
+        λ m. let (r, x, e) = among-map (reductRule n holds) (keep kept rs) .0 m in
+            let (h, d) = among-keep kept rs .0 x in (r, h, dec-not (dec-deleted r) .yes d, e),
+        λ p. let (r, h, d, e) = p in
+            among-map (reductRule n holds) (keep kept rs) .1 (r, among-keep kept rs .1 (h, is-true (dec-not (dec-deleted r)) d), e),
+      )

@@ -4,7 +4,8 @@ use mathlib.Core.Path.{refl, sym, subst}
 use mathlib.Core.List.{List}
 use mathlib.Core.Logic.{_↔_}
 use Rattle.sets.specs.Decides.{Decides, is-true, dec-iff, dec-not, dec-and, dec-imp}
-use Rattle.sets.specs.Lists.{_among_, keep, among-keep, among-map, upTo, among-upTo, dec-every, dec-any}
+use Rattle.sets.specs.Lists.{_among_, keep, among-keep, among-kept, among-map, upTo, dec-every, dec-any}
+use Rattle.sets.specs.Pairwise.{Pairwise, pairwise-keep, upTo-rising}
 use Rattle.sets.specs.Sets.{_⊆_, _⊂_, Meets}
 use Rattle.sets.specs.Members.{∈-∅, ∅-⊆, dec-⊆, dec-⊂, dec-meets, ⊂-less}
 use Rattle.semantics.specs.Definitions.Rules.{Rule}
@@ -44,15 +45,14 @@ dec-stable p i =
       λ st. (st .model, λ h. st .minimal (h .0) (h .2 .0) (h .2 .1)),
     ) (dec-and (dec-model q i) (dec-not (dec-any _ _ i (λ j _. dec-and (dec-⊂ j i) (dec-model q j)))))
 
--- W is the stable sets of the reduct
-pub belief-sets : (s : Setting) (g : ℕ) {i : ℕ} → i among beliefSets s g ↔ ((i < 2 ^ s .atoms) × Stable (s .program g) i)
+-- W is the stable sets of the reduct, each once, rising
+pub among-belief-sets : (s : Setting) (g : ℕ) {i : ℕ} → i among beliefSets s g ↔ ((i < 2 ^ s .atoms) × Stable (s .program g) i)
 unfolding beliefSets
-belief-sets s g {i} =
-    let d = dec-stable (s .program g) i in
-    let f = stable (s .program g) in (
-      λ m. let (k, e) = among-keep f (upTo (2 ^ s .atoms)) .0 m in (among-upTo (2 ^ s .atoms) .0 k, d .yes e),
-      λ p. among-keep f (upTo (2 ^ s .atoms)) .1 (among-upTo (2 ^ s .atoms) .1 (p .0), is-true d (p .1)),
-    )
+among-belief-sets s g = among-kept (Stable (s .program g)) (stable (s .program g)) (dec-stable (s .program g)) (2 ^ s .atoms)
+
+pub belief-sets-rising : (s : Setting) (g : ℕ) → Pairwise _<_ (beliefSets s g)
+unfolding beliefSets
+belief-sets-rising s g = pairwise-keep _ _ (upTo (2 ^ s .atoms)) (upTo-rising (2 ^ s .atoms))
 
 -- ---- the reduced program's models, by the rules of the program itself
 abbrev pub ReducedModel : List Rule → (i j : ℕ) → Type 0

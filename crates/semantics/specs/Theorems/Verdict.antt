@@ -1,19 +1,19 @@
 -- 000, Definitions 1 and 5: a guess is verified exactly when it is reduct-verifiable. Assumes nothing.
 use Prim.Native.Nat.{ℕ, _^_, _<_}
 use mathlib.Core.Path.{_≡_, refl, sym, subst}
-use mathlib.Core.Bool.{Bool, true, false, not, _&&_, cond, true≢false, Bool·not-not}
+use mathlib.Core.Bool.{Bool, true, false, not, _&&_, true≢false, Bool·not-not}
 use mathlib.Core.List.{List}
 use mathlib.Core.Logic.{_↔_, ⊎-elim}
 use lib.Dec.{eqb}
 use lib.ListN.{length}
-use Rattle.sets.specs.Decides.{Decides, is-true, decided, dec-iff, dec-not, dec-and, dec-eq}
+use Rattle.sets.specs.Decides.{Decides, decided, dec-iff, dec-not, dec-and, dec-eq}
 use Rattle.sets.specs.Lists.{_among_, null, dec-some, dec-member}
 use Rattle.sets.specs.Sets.{_∈_, _∈?_}
-use Rattle.sets.specs.Members.{dec-∈, ∈-below, ∈-ext, ∈-⋂, ∈-⋃, ∈-setOf, setOf-below}
+use Rattle.sets.specs.Members.{dec-∈, ∈-below, ∈-ext, ∈-⋂, ∈-⋃, ∈-setOf-dec, setOf-below}
 use Rattle.semantics.specs.Definitions.Guesses.{Negation, not-known, may-be}
 use Rattle.semantics.specs.Definitions.Setting.{Setting, k, negation}
-use Rattle.semantics.specs.Definitions.Verdict.{beliefSets, knownIn, possibleIn, foundHas, guessFound, Verdict, empty, other, verified, verdict, isEmpty, isOther, isVerified}
-use Rattle.semantics.specs.Theorems.Stable.{belief-sets}
+use Rattle.semantics.specs.Definitions.Verdict.{beliefSets, knownIn, possibleIn, foundHas, guessFound, other, verified, judge, verdict, isEmpty, isOther, isVerified}
+use Rattle.semantics.specs.Theorems.Stable.{among-belief-sets}
 
 -- Definition 1: the negation is satisfied by W.
 abbrev pub Satisfied : List ℕ → Negation → Type 0
@@ -47,39 +47,37 @@ module _ (s : Setting) (w : List ℕ) (within : (i : ℕ) → i among w → i < 
   pub found-exact : (j : ℕ) → j < k s → (j ∈ guessFound s w) ↔ Satisfied w (negation s j)
   unfolding guessFound
   found-exact j l =
-      let d = dec-satisfied (negation s j) in
-      (λ m. d .yes (∈-setOf _ j (k s) .0 m .1), λ p. ∈-setOf _ j (k s) .1 (l, is-true d p))
+      let m = ∈-setOf-dec (λ j. Satisfied w (negation s j)) _ (λ j. dec-satisfied (negation s j)) (k s) in
+      (λ q. m .0 q .1, λ q. m .1 (l, q))
 
 pub found-below : (s : Setting) (w : List ℕ) → guessFound s w < 2 ^ k s
 unfolding guessFound
 found-below s w = setOf-below _ (k s)
 
 -- ---- the three verdicts, by whether W is empty and whether the guess found is the one given
-module _ (s : Setting) (w : List ℕ) where
-  abbrev judged : (none same : Bool) → Verdict
-  judged none same = cond none empty (cond (not same) (other (guessFound s w)) (verified (knownIn s w) (possibleIn w) (length w)))
-
-  tests : (none same : Bool) → (isEmpty (judged none same) ≡ none) × (isVerified (judged none same) ≡ not none && same) × (isOther (judged none same) ≡ not none && not same)
-  tests true same = (refl, refl, refl)
+module _ (f n p m : ℕ) where
+  tests : (none differs : Bool) → (isEmpty (judge none differs f n p m) ≡ none) × (isVerified (judge none differs f n p m) ≡ not none && not differs) × (isOther (judge none differs f n p m) ≡ not none && differs)
+  tests true differs = (refl, refl, refl)
   tests false true = (refl, refl, refl)
   tests false false = (refl, refl, refl)
 
-  says : (none same : Bool) → (isVerified (judged none same) ≡ true → judged none same ≡ verified (knownIn s w) (possibleIn w) (length w)) × (isOther (judged none same) ≡ true → judged none same ≡ other (guessFound s w))
-  says true same = ((λ e. absurd (true≢false (sym e))), λ e. absurd (true≢false (sym e)))
-  says false true = ((λ e. refl), λ e. absurd (true≢false (sym e)))
-  says false false = ((λ e. absurd (true≢false (sym e))), λ e. refl)
+  says : (none differs : Bool) → (isVerified (judge none differs f n p m) ≡ true → judge none differs f n p m ≡ verified n p m) × (isOther (judge none differs f n p m) ≡ true → judge none differs f n p m ≡ other f)
+  says true differs = ((λ e. absurd (true≢false (sym e))), λ e. absurd (true≢false (sym e)))
+  says false true = ((λ e. absurd (true≢false (sym e))), λ e. refl)
+  says false false = ((λ e. refl), λ e. absurd (true≢false (sym e)))
 
 module _ (s : Setting) (g : ℕ) where
-  pub within : (i : ℕ) → i among beliefSets s g → i < 2 ^ s .atoms
-  within i m = belief-sets s g .0 m .0
+  pub belief-below : (i : ℕ) → i among beliefSets s g → i < 2 ^ s .atoms
+  belief-below i m = among-belief-sets s g .0 m .0
 
   -- a reduct-verifiable guess is the guess found
   pub verifiable-found : g < 2 ^ k s → Verifiable s g → guessFound s (beliefSets s g) ≡ g
   verifiable-found l v =
       let w = beliefSets s g in
+      let x = found-exact s w belief-below (v .non-empty) in
       ∈-ext (guessFound s w) g (λ j. (
-        λ m. let h = ∈-below (found-below s w) m in v .exact j h .1 (found-exact s w within (v .non-empty) j h .0 m),
-        λ m. let h = ∈-below l m in found-exact s w within (v .non-empty) j h .1 (v .exact j h .0 m),
+        λ m. let h = ∈-below (found-below s w) m in v .exact j h .1 (x j h .0 m),
+        λ m. let h = ∈-below l m in x j h .1 (v .exact j h .0 m),
       ))
 
   -- 'verified' exactly when reduct-verifiable
@@ -87,31 +85,34 @@ module _ (s : Setting) (g : ℕ) where
   unfolding verdict
   dec-verifiable l =
       let w = beliefSets s g in
-      rw (tests s w (null w) (eqb (guessFound s w) g) .1)
+      rw (tests _ _ _ _ (null w) (not (eqb (guessFound s w) g)) .1, Bool·not-not (eqb (guessFound s w) g))
       (dec-iff (
-        λ p. record { non-empty = p .0; exact = λ j h. subst (λ x. (j ∈ x) ↔ Satisfied w (negation s j)) (p .1) (found-exact s w within (p .0) j h) },
+        λ p. record {
+          non-empty = p .0;
+          exact = λ j h. subst (λ x. (j ∈ x) ↔ Satisfied w (negation s j)) (p .1) (found-exact s w belief-below (p .0) j h);
+        },
         λ v. (v .non-empty, verifiable-found l v),
       ) (dec-and (dec-member w) (dec-eq (guessFound s w) g)))
 
   -- and then it says what is known, what is possible, and how many belief sets there are
   pub verified-verdict : isVerified (verdict s g) ≡ true → verdict s g ≡ verified (knownIn s (beliefSets s g)) (possibleIn (beliefSets s g)) (length (beliefSets s g))
   unfolding verdict
-  verified-verdict = says s (beliefSets s g) (null (beliefSets s g)) (eqb (guessFound s (beliefSets s g)) g) .0
+  verified-verdict = says _ _ _ _ (null (beliefSets s g)) (not (eqb (guessFound s (beliefSets s g)) g)) .0
 
   -- 'empty' exactly when no set is stable
   pub dec-empty : Decides ((i : ℕ) × (i among beliefSets s g) → ⊥) (isEmpty (verdict s g))
   unfolding verdict
   dec-empty =
       let w = beliefSets s g in
-      rw (tests s w (null w) (eqb (guessFound s w) g) .0) (subst (Decides _) (Bool·not-not (null w)) (dec-not (dec-member w)))
+      rw (tests _ _ _ _ (null w) (not (eqb (guessFound s w) g)) .0) (subst (Decides _) (Bool·not-not (null w)) (dec-not (dec-member w)))
 
-  -- 'other' exactly when some set is and the guess found is another; it is said
+  -- 'other' exactly when some set is stable and the guess found differs; the verdict then names it
   pub dec-other : Decides (((i : ℕ) × (i among beliefSets s g)) × (guessFound s (beliefSets s g) ≡ g → ⊥)) (isOther (verdict s g))
   unfolding verdict
   dec-other =
       let w = beliefSets s g in
-      rw (tests s w (null w) (eqb (guessFound s w) g) .2) (dec-and (dec-member w) (dec-not (dec-eq (guessFound s w) g)))
+      rw (tests _ _ _ _ (null w) (not (eqb (guessFound s w) g)) .2) (dec-and (dec-member w) (dec-not (dec-eq (guessFound s w) g)))
 
   pub other-verdict : isOther (verdict s g) ≡ true → verdict s g ≡ other (guessFound s (beliefSets s g))
   unfolding verdict
-  other-verdict = says s (beliefSets s g) (null (beliefSets s g)) (eqb (guessFound s (beliefSets s g)) g) .1
+  other-verdict = says _ _ _ _ (null (beliefSets s g)) (not (eqb (guessFound s (beliefSets s g)) g)) .1

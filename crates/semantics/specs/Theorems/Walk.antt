@@ -1,26 +1,27 @@
--- The walk along any list that enumerates the guesses, larger ones first, meets exactly the world views, in the list's order, and its six
--- numbers are those of the definitions. Assumes nothing.
+-- The walk along any list that enumerates the guesses, larger ones first, meets exactly the views of the world views, in the list's order,
+-- and its six numbers are those of the definitions. Assumes nothing.
 use Prim.Native.Nat.{ℕ, _+_, _^_, _≤_, _<_}
 use mathlib.Core.Path.{_≡_, refl, sym, ap, _∙_, subst}
-use mathlib.Core.Bool.{Bool, true, false, not, _&&_}
-use mathlib.Core.List.{List, [], _∷_, _++_, foldl, append-nil, append-assoc}
+use mathlib.Core.Bool.{Bool, true, false, not, _&&_, cond}
+use mathlib.Core.List.{List, [], _∷_, _++_, foldl, map, append-nil, append-assoc, map-append}
 use mathlib.Core.Logic.{inl, inr, ⊎-elim}
 use native.Mathlib.Omega.{arith}
 use lib.ListN.{length, length-append}
 use Rattle.sets.specs.Decides.{is-true, dec-one, dec-iff}
-use Rattle.sets.specs.Lists.{_among_, here, first-or-later, among-append, some, keep, among-keep, keep-snoc, only, dec-some, among-upTo}
-use Rattle.sets.specs.Pairwise.{upTo-rising, Pairwise, pairwise-map, pairwise-keep, pairwise-suffix}
+use Rattle.sets.specs.Lists.{_among_, here, first-or-later, among-append, some, keep, among-keep, among-map, keep-snoc, only, dec-some, among-upTo}
+use Rattle.sets.specs.Pairwise.{Pairwise, pairwise-keep, pairwise-suffix, upTo-distinct}
 use Rattle.sets.specs.Counting.{as-long}
 use Rattle.sets.specs.Sets.{_⊂_, _⊂?_, size}
 use Rattle.sets.specs.Members.{dec-⊂}
 use Rattle.sets.specs.Size.{size-⊂}
 use Rattle.semantics.specs.Definitions.Setting.{Setting, k, guesses}
-use Rattle.semantics.specs.Definitions.Verdict.{verdict, isEmpty, isOther, isVerified}
+use Rattle.semantics.specs.Definitions.Verdict.{Verdict, empty, other, verified, verdict, isEmpty, isOther, isVerified}
 use Rattle.semantics.specs.Definitions.Propagation.{contradicted}
-use Rattle.semantics.specs.Definitions.Order.{Enumerates}
-use Rattle.semantics.specs.Definitions.Listing.{isWorldView, covered, ruled, tested, testedEmpty, testedOther, count, tallyOf}
-use Rattle.semantics.specs.Walk.{Walked, more, advance, walk}
+use Rattle.semantics.specs.Definitions.Listing.{isWorldView, covered, ruled, tested, testedEmpty, testedOther, tallyBy, tallyOf, viewOf, viewsAlong}
+use Rattle.semantics.specs.Walk.{Walked, more, viewBy, advance, walk}
+use Rattle.semantics.specs.Theorems.Verdict.{verified-verdict}
 use Rattle.semantics.specs.Theorems.WorldView.{definition-6, dec-covered, tested-is, view-tested}
+use Rattle.semantics.specs.Theorems.Order.{Enumerates}
 
 -- the number of those that pass, with one more at the end
 more-kept : (f : ℕ → Bool) (l : List ℕ) (x : ℕ) {b : Bool} → b ≡ f x → more b (length (keep f l)) ≡ length (keep f (l ++ x ∷ []))
@@ -30,33 +31,43 @@ more-kept f l x {b} e = go b ∙ sym (rw e (ap length (keep-snoc f l x) ∙ leng
     go true = omega arith
     go false = omega arith
 
+-- the view that a verdict gives is the world view's
+viewBy-is : (s : Setting) (g : ℕ) (t : Bool) → cond t (viewBy g (verdict s g)) [] ≡ map (viewOf s) (only (t && isVerified (verdict s g)) g)
+viewBy-is s g false = refl
+viewBy-is s g true = go (verdict s g) (verified-verdict s g)
+  where
+    go : (v : Verdict) → (isVerified v ≡ true → v ≡ verified (viewOf s g .known) (viewOf s g .possible) (viewOf s g .sets)) → viewBy g v ≡ map (viewOf s) (only (isVerified v) g)
+    go empty e = refl
+    go (other found) e = refl
+    go (verified known possible sets) e = ap (viewBy g) (e refl)
+
 module _ (s : Setting) where
   -- what the walk is to have after the guesses d
   meant : List ℕ → Walked
-  meant d = record {
-    met = keep (isWorldView s) d;
-    tally = record {
-      views = length (keep (isWorldView s) d);
-      covered = length (keep (covered s) d);
-      ruled = length (keep (ruled s) d);
-      tested = length (keep (tested s) d);
-      empty = length (keep (testedEmpty s) d);
-      other = length (keep (testedOther s) d);
-    };
-  }
+  meant d = record { met = viewsAlong s d; tally = tallyBy s (λ f. length (keep f d)) }
+
+  -- it sees a view that covers g
+  abbrev seen : List ℕ → ℕ → Bool
+  seen d g = some (λ v. g ⊂? v .guess) (viewsAlong s d)
 
   -- and after one more, where it sees rightly whether that is covered
-  module _ (d : List ℕ) (g : ℕ) (l : g < 2 ^ k s) (sees : some (λ h. g ⊂? h) (keep (isWorldView s) d) ≡ covered s g) where
-    sees-tested : not (some (λ h. g ⊂? h) (keep (isWorldView s) d)) && not (contradicted s g) ≡ tested s g
+  module _ (d : List ℕ) (g : ℕ) (l : g < 2 ^ k s) (sees : seen d g ≡ covered s g) where
+    sees-tested : not (seen d g) && not (contradicted s g) ≡ tested s g
     sees-tested = ap (λ c. not c && not (contradicted s g)) sees ∙ sym (tested-is s g)
 
-    sees-view : not (some (λ h. g ⊂? h) (keep (isWorldView s) d)) && not (contradicted s g) && isVerified (verdict s g) ≡ isWorldView s g
+    sees-view : not (seen d g) && not (contradicted s g) && isVerified (verdict s g) ≡ isWorldView s g
     sees-view = ap (λ t. t && isVerified (verdict s g)) sees-tested ∙ sym (view-tested s g l)
+
+    met-more : viewsAlong s d ++ cond (not (seen d g) && not (contradicted s g)) (viewBy g (verdict s g)) [] ≡ viewsAlong s (d ++ g ∷ [])
+    unfolding viewsAlong
+    met-more =
+        ap (λ vs. viewsAlong s d ++ vs) (viewBy-is s g (not (seen d g) && not (contradicted s g)) ∙ ap (λ b. map (viewOf s) (only b g)) sees-view)
+        ∙ sym (ap (map (viewOf s)) (keep-snoc (isWorldView s) d g) ∙ map-append (viewOf s) (keep (isWorldView s) d) (only (isWorldView s g) g))
 
     meant-more : advance s (meant d) g ≡ meant (d ++ g ∷ [])
     unfolding meant
     meant-more i = record {
-      met = (ap (λ v. keep (isWorldView s) d ++ only v g) sees-view ∙ sym (keep-snoc (isWorldView s) d g)) i;
+      met = met-more i;
       tally = record {
         views = more-kept (isWorldView s) d g sees-view i;
         covered = more-kept (covered s) d g sees i;
@@ -76,16 +87,19 @@ module _ (s : Setting) where
         (λ m. ⊎-elim (λ z. absurd (p .differ (sym z))) (λ n. absurd (omega (arith, falls h n, size-⊂ p))) (first-or-later m))
         (among-append d .0 (subst (λ z. h among z) (sym e) (en .all h lh)))
 
-    -- so the world views met cover g exactly where a world view does
-    sees-covered : (d r : List ℕ) (g : ℕ) → d ++ g ∷ r ≡ l → some (λ h. g ⊂? h) (keep (isWorldView s) d) ≡ covered s g
+    -- so the views met cover g exactly where a world view does
+    sees-covered : (d r : List ℕ) (g : ℕ) → d ++ g ∷ r ≡ l → seen d g ≡ covered s g
+    unfolding viewsAlong
     sees-covered d r g e =
         let is-below : (h : ℕ) → h among d → h < 2 ^ k s = λ h m. en .below h (subst (λ z. h among z) e (among-append d .1 (inl m))) in
         dec-one
         (dec-iff (
-          λ q. let (h, m, p) = q in
-              let (n, w) = among-keep (isWorldView s) d .0 m in (h, is-below h n, (p, definition-6 s h (is-below h n) .yes w)),
-          λ q. let (h, lh, (p, w)) = q in (h, among-keep (isWorldView s) d .1 (superset-before d r g h e lh p, is-true (definition-6 s h lh) w), p),
-        ) (dec-some (λ h. g ⊂? h) (λ h. g ⊂ h) (keep (isWorldView s) d) (λ h _. dec-⊂ g h)))
+          λ q. let (v, m, p) = q in
+              let (h, n, z) = among-map (viewOf s) (keep (isWorldView s) d) .0 m in
+              let (o, w) = among-keep (isWorldView s) d .0 n in (h, is-below h o, (subst (λ v. g ⊂ v .guess) z p, definition-6 s h (is-below h o) .yes w)),
+          λ q. let (h, lh, (p, w)) = q in
+              (viewOf s h, among-map (viewOf s) (keep (isWorldView s) d) .1 (h, among-keep (isWorldView s) d .1 (superset-before d r g h e lh p, is-true (definition-6 s h lh) w), refl), p),
+        ) (dec-some (λ v. g ⊂? v .guess) (λ v. g ⊂ v .guess) (viewsAlong s d) (λ v _. dec-⊂ g (v .guess))))
         (dec-covered s g)
 
     walk-from : (r d : List ℕ) → d ++ r ≡ l → foldl (advance s) (meant d) r ≡ meant l
@@ -95,24 +109,13 @@ module _ (s : Setting) where
         ∙ walk-from r (d ++ g ∷ []) (append-assoc d (g ∷ []) r ∙ e)
 
     -- as many along the list as among all guesses
-    pub count-along : (f : ℕ → Bool) → length (keep f l) ≡ count s f
+    pub count-along : (f : ℕ → Bool) → length (keep f l) ≡ length (keep f (guesses s))
     count-along f =
-        as-long (keep f l) (keep f (guesses s)) (pairwise-keep _ f l (en .once))
-        (pairwise-keep _ f (guesses s) (pairwise-map (guesses s) (λ g h _ _ q e. omega arith) (upTo-rising (2 ^ k s)))) (λ g. (
+        as-long (keep f l) (keep f (guesses s)) (pairwise-keep _ f l (en .once)) (pairwise-keep _ f (guesses s) (upTo-distinct (2 ^ k s))) (λ g. (
           λ m. let (n, e) = among-keep f l .0 m in among-keep f (guesses s) .1 (among-upTo (2 ^ k s) .1 (en .below g n), e),
           λ m. let (n, e) = among-keep f (guesses s) .0 m in among-keep f l .1 (en .all g (among-upTo (2 ^ k s) .0 n), e),
         ))
 
-    pub walk-is : walk s l ≡ record { met = keep (isWorldView s) l; tally = tallyOf s }
-    unfolding walk meant tallyOf keep
-    walk-is = walk-from l [] refl ∙ λ i. record {
-      met = keep (isWorldView s) l;
-      tally = record {
-        views = count-along (isWorldView s) i;
-        covered = count-along (covered s) i;
-        ruled = count-along (ruled s) i;
-        tested = count-along (tested s) i;
-        empty = count-along (testedEmpty s) i;
-        other = count-along (testedOther s) i;
-      };
-    }
+    pub walk-is : walk s l ≡ record { met = viewsAlong s l; tally = tallyOf s }
+    unfolding walk meant tallyOf viewsAlong keep
+    walk-is = walk-from l [] refl ∙ λ i. record { met = viewsAlong s l; tally = tallyBy s (λ f. count-along f i) }

@@ -2,14 +2,15 @@
 use Prim.Native.Nat.{ℕ, zero, suc, _+_, _^_, _≤_, _<_}
 use mathlib.Core.Path.{_≡_, refl}
 use mathlib.Core.Bool.{Bool, true, false, not, _&&_}
-use mathlib.Core.Logic.{_⊎_, ⊎-elim}
+use mathlib.Core.Logic.{⊎-elim}
 use native.Mathlib.Omega.{arith}
 use Rattle.sets.specs.Decides.{Decides, decided, dec-one, dec-iff, dec-not, dec-and}
-use Rattle.sets.specs.Lists.{dec-any}
-use Rattle.sets.specs.Sets.{_⊆_, _⊂_, size}
+use Rattle.sets.specs.Lists.{some, dec-any}
+use Rattle.sets.specs.Sets.{_⊆_, _⊂_, _⊂?_, size}
 use Rattle.sets.specs.Members.{⊆-refl, ⊆-trans, dec-⊂, ⊂-⊆-trans}
 use Rattle.sets.specs.Size.{size-below, size-⊂}
-use Rattle.semantics.specs.Definitions.Setting.{Setting, k}
+use Rattle.semantics.specs.Definitions.Setting.{Setting, k, guesses}
+use Rattle.semantics.specs.Definitions.Verdict.{verdict, isVerified}
 use Rattle.semantics.specs.Definitions.Listing.{isWorldView, covered, tested, testedView}
 use Rattle.semantics.specs.Definitions.Propagation.{contradicted}
 use Rattle.semantics.specs.Theorems.Verdict.{Verifiable, dec-verifiable}
@@ -24,8 +25,8 @@ module _ (s : Setting) where
   abbrev Above : ℕ → Type 0
   Above g = (h : ℕ) × (h < 2 ^ k s) × ((g ⊂ h) × Verifiable s h)
 
-  above-or-not : (g : ℕ) → Above g ⊎ (Above g → ⊥)
-  above-or-not g = decided (dec-any _ _ (2 ^ k s) (λ h l. dec-and (dec-⊂ g h) (dec-verifiable s h l)))
+  dec-above : (g : ℕ) → Decides (Above g) (some (λ h. g ⊂? h && isVerified (verdict s h)) (guesses s))
+  dec-above g = dec-any _ _ (2 ^ k s) (λ h l. dec-and (dec-⊂ g h) (dec-verifiable s h l))
 
   pub definition-6 : (g : ℕ) → g < 2 ^ k s → Decides (WorldView g) (isWorldView s g)
   unfolding isWorldView
@@ -33,7 +34,7 @@ module _ (s : Setting) where
       dec-iff (
         λ q. record { verifiable = q .0; maximal = λ h m p v. q .1 (h, m, (p, v)) },
         λ w. (w .verifiable, λ a. w .maximal (a .0) (a .1) (a .2 .0) (a .2 .1)),
-      ) (dec-and (dec-verifiable s g l) (dec-not (dec-any _ _ (2 ^ k s) (λ h m. dec-and (dec-⊂ g h) (dec-verifiable s h m)))))
+      ) (dec-and (dec-verifiable s g l) (dec-not (dec-above g)))
 
   -- every verified guess has a maximal verified superset: m bounds how much larger it can be
   climb : (m g : ℕ) → k s ≤ size g + m → g < 2 ^ k s → Verifiable s g → (h : ℕ) × (h < 2 ^ k s) × (g ⊆ h) × WorldView h
@@ -45,7 +46,7 @@ module _ (s : Setting) where
       let q = size-⊂ p in
       let (x, lx, sx, wx) = ih h (omega arith) lh vh in
       (x, lx, ⊆-trans (p .within) sx, wx))
-      (λ n. (g, l, ⊆-refl, record { verifiable = v; maximal = λ h lh p vh. n (h, lh, (p, vh)) })) (above-or-not g)
+      (λ n. (g, l, ⊆-refl, record { verifiable = v; maximal = λ h lh p vh. n (h, lh, (p, vh)) })) (decided (dec-above g))
 
   pub maximal-superset : (g : ℕ) → g < 2 ^ k s → Verifiable s g → (h : ℕ) × (h < 2 ^ k s) × (g ⊆ h) × WorldView h
   maximal-superset g l v = climb (k s) g (omega arith) l v
