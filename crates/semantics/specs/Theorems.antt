@@ -1,4 +1,4 @@
--- The papers' reading of the definitions. From Stable on, for any setting.
+-- The papers' reading of the definitions. Negations, Reduct and ModalReduct are about the rules of a sheet, the others about any setting.
 pub mod Negations
 pub mod Reduct
 pub mod Stable
