@@ -69,7 +69,7 @@ pub record View : Type 0 where
   pub possible : ℕ
   pub sets : ℕ
 
--- "Known, possible and number of sets are those of the verdict on that guess": Theorems/Verdict.antt, `verified-verdict`
+-- "Known, possible and number of sets are those of the verdict on that guess": Theorems/Listing.antt, `view-verdict`
 abbrev pub viewOf : Setting → ℕ → View
 viewOf s g = record { guess = g; known = knownIn s (beliefSets s g); possible = possibleIn (beliefSets s g); sets = length (beliefSets s g) }
 
