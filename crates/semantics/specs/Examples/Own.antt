@@ -23,4 +23,7 @@ own =
     -- ← not not c, M b; c ← not K a, not K b; a ← not K b, not K c; b ← not a, not c
     -- the numbering; dead "not" atoms; covered by any view, not by the first; size falling
     ∷ sheet 3 (rule 0 0 0 4 0 0 2 0 ∷ rule 4 0 0 0 0 3 0 0 ∷ rule 1 0 0 0 0 6 0 0 ∷ rule 2 0 5 0 0 0 0 0 ∷ []) (view 13 2 2 1 ∷ view 3 4 4 1 ∷ view 10 1 1 1 ∷ []) (tally 3 8 4 4 0 1)
+    -- a ← b; b ← c; c ← d, M a
+    -- F grows by one atom a step, four times
+    ∷ sheet 4 (rule 1 2 0 0 0 0 0 0 ∷ rule 2 4 0 0 0 0 0 0 ∷ rule 4 8 0 0 0 0 1 0 ∷ []) (view 0 0 0 1 ∷ []) (tally 1 0 1 1 0 0)
     ∷ []
