@@ -26,7 +26,8 @@ negationsOn rs a = only (mentioned rs K notK a) (not-known a) ++ only (mentioned
 abbrev pub negationsOf : ℕ → List EpistemicRule → List Negation
 negationsOf n rs = flat (negationsOn rs) (upTo n)
 
--- "These are the epistemic negations (000, Definition 3), numbered from 0": negation j. (At or above k the value is arbitrary and nothing uses it.)
+-- "These are the epistemic negations (000, Definition 3), numbered from 0": negation j. (At or above k the value is arbitrary and nothing
+-- uses it.)
 abbrev pub numbered : List Negation → ℕ → Negation
 numbered es j = getD es j (not-known 0)
 

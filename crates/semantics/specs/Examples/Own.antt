@@ -6,7 +6,7 @@ use Rattle.semantics.specs.Examples.Sheets.{rule, view, tally, Listed, s
 abbrev pub own : List Listed
 own =
     -- a ← M a, M b; c ← a, K c; ← not not b; b ← not M c
-    -- dead plain and "not not" atoms; T and F by turns; K a becomes a, not "not not a"
+    -- dead "not not" atoms; T beyond the facts; K a becomes a, not "not not a"
     sheet 3 (rule 1 0 0 0 0 0 3 0 ∷ rule 4 1 0 0 4 0 0 0 ∷ rule 0 0 0 2 0 0 0 0 ∷ rule 2 0 0 0 0 0 0 4 ∷ []) [] (tally 0 0 12 4 4 0)
     -- a ← M a; ← K a
     -- M a that does not hold; the guess found is compared whole
@@ -24,6 +24,6 @@ own =
     -- the numbering; dead "not" atoms; covered by any view, not by the first; size falling
     ∷ sheet 3 (rule 0 0 0 4 0 0 2 0 ∷ rule 4 0 0 0 0 3 0 0 ∷ rule 1 0 0 0 0 6 0 0 ∷ rule 2 0 5 0 0 0 0 0 ∷ []) (view 13 2 2 1 ∷ view 3 4 4 1 ∷ view 10 1 1 1 ∷ []) (tally 3 8 4 4 0 1)
     -- a ← b; b ← c; c ← d, M a
-    -- F grows by one atom a step, four times
+    -- F grows by one atom a step, four times: no fixed three steps
     ∷ sheet 4 (rule 1 2 0 0 0 0 0 0 ∷ rule 2 4 0 0 0 0 0 0 ∷ rule 4 8 0 0 0 0 1 0 ∷ []) (view 0 0 0 1 ∷ []) (tally 1 0 1 1 0 0)
     ∷ []

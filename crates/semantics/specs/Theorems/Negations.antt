@@ -32,26 +32,24 @@ module _ (rs : List EpistemicRule) where
   dec-mentioned : (m m′ : Subjective) (a : ℕ) → Decides (Mentioned rs m m′ a) (mentioned rs m m′ a)
   dec-mentioned m m′ a = dec-some _ _ rs (λ r _. dec-or (dec-∈ a (r .mask m)) (dec-∈ a (r .mask m′)))
 
+  -- a negation d of a that is there if a literal of one of two kinds appears
+  from-only : (m m′ : Subjective) (a : ℕ) (d : Negation) → atomOf d ≡ a → (Mentioned rs m m′ a → Appears rs d) → {e : Negation} → e among only (mentioned rs m m′ a) d → (atomOf e ≡ a) × Appears rs e
+  from-only m m′ a d z f q =
+      let (b, y) = among-only (mentioned rs m m′ a) .0 q in
+      subst (λ x. (atomOf x ≡ a) × Appears rs x) (sym y) (z, f (dec-mentioned m m′ a .yes b))
+
+  to-only : (m m′ : Subjective) {a b : ℕ} (make : ℕ → Negation) → b ≡ a → Mentioned rs m m′ b → make b among only (mentioned rs m m′ a) (make a)
+  to-only m m′ {a} make z p = among-only (mentioned rs m m′ a) .1 (is-true (dec-mentioned m m′ a) (subst (Mentioned rs m m′) z p), ap make z)
+
   on-atom : (a : ℕ) (e : Negation) → e among negationsOn rs a ↔ ((atomOf e ≡ a) × Appears rs e)
   on-atom a e = (
-    λ q. ⊎-elim (first e) (second e) (among-append (only (mentioned rs K notK a) (not-known a)) .0 q),
+    λ q. ⊎-elim (from-only K notK a (not-known a) refl (λ p. p)) (from-only M notM a (may-be a) refl (λ p. p)) (among-append (only (mentioned rs K notK a) (not-known a)) .0 q),
     λ p. among-append (only (mentioned rs K notK a) (not-known a)) .1 (back e p),
   )
     where
-      first : (e : Negation) → e among only (mentioned rs K notK a) (not-known a) → (atomOf e ≡ a) × Appears rs e
-      first e q =
-          let (b, z) = among-only (mentioned rs K notK a) .0 q in
-          subst (λ d. (atomOf d ≡ a) × Appears rs d) (sym z) (refl, dec-mentioned K notK a .yes b)
-
-      second : (e : Negation) → e among only (mentioned rs M notM a) (may-be a) → (atomOf e ≡ a) × Appears rs e
-      second e q =
-          let (b, z) = among-only (mentioned rs M notM a) .0 q in
-          subst (λ d. (atomOf d ≡ a) × Appears rs d) (sym z) (refl, dec-mentioned M notM a .yes b)
-
       back : (e : Negation) → (atomOf e ≡ a) × Appears rs e → (e among only (mentioned rs K notK a) (not-known a)) ⊎ (e among only (mentioned rs M notM a) (may-be a))
-      back (not-known b) p =
-          inl (among-only (mentioned rs K notK a) .1 (is-true (dec-mentioned K notK a) (subst (Mentioned rs K notK) (p .0) (p .1)), ap not-known (p .0)))
-      back (may-be b) p = inr (among-only (mentioned rs M notM a) .1 (is-true (dec-mentioned M notM a) (subst (Mentioned rs M notM) (p .0) (p .1)), ap may-be (p .0)))
+      back (not-known b) p = inl (to-only K notK not-known (p .0) (p .1))
+      back (may-be b) p = inr (to-only M notM may-be (p .0) (p .1))
 
   pub definition-3 : (n : ℕ) {e : Negation} → e among negationsOf n rs ↔ ((atomOf e < n) × Appears rs e)
   definition-3 n {e} = (
