@@ -1,8 +1,11 @@
--- In the order of document 01.
+-- In the order of document 01; Check, which needs k, stands after Setting.
 pub mod Rules
+pub mod Reading
+pub mod Sheet
 pub mod Guesses
 pub mod Reduct
 pub mod Setting
+pub mod Check
 pub mod Stable
 pub mod Verdict
 pub mod Propagation

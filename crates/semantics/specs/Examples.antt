@@ -1,4 +1,5 @@
--- Sheets whose lists are known, by computation.
+-- Sheets whose lists are known, and limit cases of the reading, computed from their bytes.
 pub mod Sheets
 pub mod Own
+pub mod Limits
 pub mod Computed

@@ -1,6 +1,8 @@
 -- What document 01 means. Definitions: what a reader must believe, in the document's order. Theorems: the papers' reading of them.
--- Walk: the listing as it is to be run, which the definitions do not rest on. Examples: sheets with known lists, computed.
+-- Walk: the listing as it is to be run; Fields: where a reader finds the fields of a sheet. The definitions do not rest on these two.
+-- Examples: sheets with known lists, computed.
 pub mod Definitions
 pub mod Walk
+pub mod Fields
 pub mod Theorems
 pub mod Examples

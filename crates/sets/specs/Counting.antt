@@ -1,13 +1,13 @@
 -- How many members a list has, and how many of them pass a test. Assumes nothing.
-use Prim.Native.Nat.{ℕ, zero, suc, _+_, _≤_, zero-le}
-use mathlib.Core.Path.{_≡_, refl, sym, ap, _∙_, subst}
+use Prim.Native.Nat.{ℕ, _+_, _≤_, zero-le}
+use mathlib.Core.Path.{_≡_, refl, sym, ap, subst}
 use mathlib.Core.Bool.{Bool, true, false, cond}
 use mathlib.Core.List.{List, [], _∷_, _++_}
 use mathlib.Core.Logic.{_↔_, inl, inr, ⊎-elim}
 use native.Mathlib.Omega.{arith}
 use native.Mathlib.Nat.{le-antisymm}
 use lib.ListN.{length, length-append}
-use Rattle.sets.specs.Lists.{_among_, here, later, nowhere, first-or-later, keep, upTo, among-append}
+use Rattle.sets.specs.Lists.{_among_, here, later, nowhere, first-or-later, keep, only, flat, among-append}
 use Rattle.sets.specs.Pairwise.{Distinct}
 
 -- ---- a list with no member twice is no longer than one that has all its members
@@ -34,6 +34,10 @@ module _ {A : Type 0} where
 abbrev pub one : Bool → ℕ
 one b = cond b 1 0
 
+length-only : {A : Type 0} (b : Bool) (x : A) → length (only b x) ≡ one b
+length-only true x = refl
+length-only false x = refl
+
 module _ {A : Type 0} where
   pub length-keep : (f : A → Bool) (x : A) (l : List A) → length (keep f (x ∷ l)) ≡ one (f x) + length (keep f l)
   unfolding keep
@@ -52,12 +56,24 @@ module _ {A : Type 0} where
       let ih = length-shared f a b c l (λ y m. h y (later m)) in
       omega (arith, h x here, length-keep f x l, length-keep a x l, length-keep b x l, length-keep c x l)
 
+  -- one for each member that passes p, and one for each that passes q
+  pub length-both : {B : Type 0} (p q : A → Bool) (f h : A → B) (l : List A)
+      → length (flat (λ x. only (p x) (f x) ++ only (q x) (h x)) l) ≡ length (keep p l) + length (keep q l)
+  unfolding flat keep
+  length-both p q f h [] = refl
+  length-both p q f h (x ∷ l) =
+      omega (
+        arith,
+        length-both p q f h l,
+        length-append (only (p x) (f x) ++ only (q x) (h x)) (flat (λ x. only (p x) (f x) ++ only (q x) (h x)) l),
+        length-append (only (p x) (f x)) (only (q x) (h x)),
+        length-only (p x) (f x),
+        length-only (q x) (h x),
+        length-keep p x l,
+        length-keep q x l,
+      )
+
   pub keep-all : (l : List A) → keep (λ _. true) l ≡ l
   unfolding keep
   keep-all [] = refl
   keep-all (x ∷ l) = ap (λ m. x ∷ m) (keep-all l)
-
-pub length-upTo : (n : ℕ) → length (upTo n) ≡ n
-unfolding upTo
-length-upTo zero = refl
-length-upTo (suc n) = length-append (upTo n) (n ∷ []) ∙ omega (arith, length-upTo n)

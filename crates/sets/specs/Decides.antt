@@ -1,10 +1,11 @@
 -- Tests and the questions that they decide. Assumes nothing.
-use Prim.Native.Nat.{ℕ}
+use Prim.Native.Nat.{ℕ, _≤_}
 use mathlib.Core.Path.{_≡_, refl, sym}
 use mathlib.Core.Bool.{Bool, true, false, not, _&&_, _||_, cond, true≢false}
 use mathlib.Core.Logic.{_↔_, _⊎_, inl, inr, ⊎-elim}
-use lib.Dec.{eqb}
-use borrow.Author.Tests.{eqb-true, eqb-false}
+use native.Mathlib.Omega.{arith}
+use lib.Dec.{eqb, leb}
+use borrow.Author.Tests.{eqb-true, eqb-false, leb-true, leb-false}
 
 -- b is the answer to the question P.
 pub record Decides (P : Type 0) (b : Bool) : Type 0 where
@@ -64,6 +65,9 @@ dec-if {a = false} d e f = dec-iff (λ r. inr (d .no refl, r), ⊎-elim (λ p. a
 -- ---- first answers
 pub dec-eq : (a b : ℕ) → Decides (a ≡ b) (eqb a b)
 dec-eq a b = record { yes = eqb-true a b; no = eqb-false a b }
+
+pub dec-le : (a b : ℕ) → Decides (a ≤ b) (leb a b)
+dec-le a b = record { yes = leb-true a b; no = λ e l. omega (arith, leb-false a b e) }
 
 -- the answer of a decision
 abbrev pub does : {P : Type 0} → Dec P → Bool

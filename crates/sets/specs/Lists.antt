@@ -2,11 +2,14 @@
 use Prim.Native.Nat.{ℕ, zero, suc, _<_}
 use mathlib.Core.Path.{_≡_, refl, sym, ap, ap₂, _∙_, subst}
 use mathlib.Core.Bool.{Bool, true, false, not, _&&_, _||_, cond, true≢false}
-use mathlib.Core.List.{List, [], _∷_, _++_, append-nil, append-assoc, map, List·Memᴰ, List·Memᴰ·head, List·Memᴰ·tail, List·Memᴰ·not-nil, List·Memᴰ·cases-cons, List·Memᴰ·append-cases, List·Memᴰ·eq-of-singleton, Memᴰ·append-left, Memᴰ·append-right}
+use mathlib.Core.List.{List, [], _∷_, _++_, append-nil, append-assoc, map, map-append, List·Memᴰ, List·Memᴰ·head, List·Memᴰ·tail, List·Memᴰ·not-nil, List·Memᴰ·cases-cons, List·Memᴰ·append-cases, List·Memᴰ·eq-of-singleton, cons≢nil, Memᴰ·append-left, Memᴰ·append-right}
 use mathlib.Core.Logic.{_↔_, _⊎_, inl, inr, ⊎-elim}
 use native.Mathlib.Omega.{arith}
 use native.Mathlib.Nat.{eq-or-lt-of-le, le-of-suc-le-suc, not-suc-le-zero}
-use Rattle.sets.specs.Decides.{is-true, Decides, dec-true, dec-false, dec-iff, dec-and, dec-or}
+use lib.Dec.{eqb}
+use lib.ListN.{length, getD, length-append, length-map, List·getD-append}
+use lib.Seq.{getD-at}
+use Rattle.sets.specs.Decides.{is-true, Decides, dec-true, dec-false, dec-iff, dec-and, dec-or, dec-eq}
 
 infix 45 _among_
 -- x stands in the list l
@@ -52,6 +55,13 @@ unfoldable pub downFrom : ℕ → List ℕ
 downFrom zero = []
 downFrom (suc n) = n ∷ downFrom n
 
+-- two lists of numbers are the same
+unfoldable pub sameList : List ℕ → List ℕ → Bool
+sameList [] [] = true
+sameList [] (y ∷ m) = false
+sameList (x ∷ l) [] = false
+sameList (x ∷ l) (y ∷ m) = eqb x y && sameList l m
+
 -- ---- membership
 module _ {A : Type 0} where
   pub here : {x : A} {l : List A} → x among (x ∷ l)
@@ -68,6 +78,25 @@ module _ {A : Type 0} where
 
   pub among-append : {x : A} (l : List A) {m : List A} → x among (l ++ m) ↔ ((x among l) ⊎ (x among m))
   among-append l {m} = (List·Memᴰ·append-cases l, ⊎-elim (Memᴰ·append-left m) (Memᴰ·append-right l))
+
+  pub among-middle : (l : List A) (x : A) (m : List A) {whole : List A} → l ++ x ∷ m ≡ whole → x among whole
+  among-middle l x m e = subst (λ z. x among z) e (among-append l .1 (inr here))
+
+  -- what holds of every member, of more members and of the entry at a number
+  module _ (P : A → Type 0) where
+    pub all-cons : {x : A} {l : List A} → P x → ((y : A) → y among l → P y) → (y : A) → y among (x ∷ l) → P y
+    all-cons p f y m = ⊎-elim (λ e. subst P (sym e) p) (f y) (first-or-later m)
+
+    pub all-append : (l : List A) {m : List A} → ((y : A) → y among l → P y) → ((y : A) → y among m → P y) → (y : A) → y among (l ++ m) → P y
+    all-append l f h y m = ⊎-elim (f y) (h y) (among-append l .0 m)
+
+    pub all-snoc : (l : List A) (x : A) → ((y : A) → y among l → P y) → P x → (y : A) → y among (l ++ x ∷ []) → P y
+    all-snoc l x f p = all-append l f (all-cons p (λ y m. absurd (nowhere m)))
+
+    pub all-getD : (l : List A) (d : A) → ((y : A) → y among l → P y) → P d → (i : ℕ) → P (getD l i d)
+    all-getD [] d f p i = p
+    all-getD (x ∷ l) d f p zero = f x here
+    all-getD (x ∷ l) d f p (suc i) = all-getD l d (λ y m. f y (later m)) p i
 
   pub among-only : (b : Bool) {x y : A} → x among only b y ↔ ((b ≡ true) × (x ≡ y))
   among-only true = (λ m. (refl, List·Memᴰ·eq-of-singleton m), λ p. List·Memᴰ·head (p .1))
@@ -109,7 +138,7 @@ module _ {A : Type 0} where
     dec-every P [] d = dec-true (λ x m. absurd (nowhere m))
     dec-every P (y ∷ l) d =
         dec-iff (
-          λ p x m. ⊎-elim (λ e. subst P (sym e) (p .0)) (p .1 x) (first-or-later m),
+          λ p. all-cons P (p .0) (p .1),
           λ p. (p y here, λ x m. p x (later m)),
         ) (dec-and (d y here) (dec-every P l (λ x m. d x (later m))))
 
@@ -165,6 +194,20 @@ among-flat f {y} (x ∷ l) =
           (⊎-elim (λ e. inl (subst (λ z. y among f z) e (p .2))) (λ k. inr (ih .1 (p .0, k, p .2))) (first-or-later (p .1))),
     )
 
+pub all-flat : {A B : Type 0} (P : B → Type 0) (f : A → List B) (l : List A) → ((x : A) → x among l → (y : B) → y among f x → P y)
+    → (y : B) → y among flat f l → P y
+all-flat P f l h y m = let (x, k, o) = among-flat f l .0 m in h x k y o
+
+pub flat-single : {A : Type 0} (l : List A) → flat (λ x. x ∷ []) l ≡ l
+unfolding flat
+flat-single [] = refl
+flat-single (x ∷ l) = ap (λ m. x ∷ m) (flat-single l)
+
+pub flat-snoc : {A B : Type 0} (f : A → List B) (l : List A) (x : A) → flat f (l ++ x ∷ []) ≡ flat f l ++ f x
+unfolding flat
+flat-snoc f [] x = append-nil (f x)
+flat-snoc f (y ∷ l) x = ap (λ m. f y ++ m) (flat-snoc f l x) ∙ sym (append-assoc (f y) (flat f l) (f x))
+
 pub among-upTo : {x : ℕ} (n : ℕ) → x among upTo n ↔ (x < n)
 unfolding upTo
 among-upTo zero = ((λ m. absurd (nowhere m)), λ h. absurd (not-suc-le-zero h))
@@ -173,6 +216,21 @@ among-upTo (suc n) =
       λ m. ⊎-elim (λ q. let h = ih .0 q in omega arith) (λ q. let e = List·Memᴰ·eq-of-singleton q in omega arith) (among-append (upTo n) .0 m),
       λ h. among-append (upTo n) .1 (⊎-elim (λ e. inr (List·Memᴰ·head e)) (λ l. inl (ih .1 l)) (eq-or-lt-of-le (le-of-suc-le-suc h))),
     )
+
+pub length-upTo : (n : ℕ) → length (upTo n) ≡ n
+unfolding upTo
+length-upTo zero = refl
+length-upTo (suc n) = length-append (upTo n) (n ∷ []) ∙ omega (arith, length-upTo n)
+
+pub getD-upTo : {A : Type 0} (f : ℕ → A) (d : A) (n i : ℕ) → i < n → getD (map f (upTo n)) i d ≡ f i
+unfolding upTo
+getD-upTo f d zero i h = absurd (not-suc-le-zero h)
+getD-upTo f d (suc n) i h =
+    let l = length-map (upTo n) f ∙ length-upTo n in
+    rw map-append (⊎-elim
+    (λ e. getD-at (map f (upTo n)) (f n) [] d i (l ∙ sym e) ∙ ap f (sym e))
+    (λ m. List·getD-append (map f (upTo n)) (f n ∷ []) d i (omega arith) ∙ getD-upTo f d n i m)
+    (eq-or-lt-of-le (le-of-suc-le-suc h)))
 
 pub among-downFrom : {x : ℕ} (n : ℕ) → x among downFrom n ↔ (x < n)
 unfolding downFrom
@@ -195,3 +253,11 @@ pub dec-any : (P : ℕ → Type 0) (f : ℕ → Bool) (n : ℕ) → ((k : ℕ) �
 dec-any P f n d =
     dec-iff (λ p. (p .0, among-upTo n .0 (p .1), p .2), λ p. (p .0, among-upTo n .1 (p .1), p .2))
     (dec-some f P (upTo n) (λ k m. d k (among-upTo n .0 m)))
+
+-- ---- "the same list"
+pub dec-same : (l m : List ℕ) → Decides (l ≡ m) (sameList l m)
+unfolding sameList
+dec-same [] [] = dec-true refl
+dec-same [] (y ∷ m) = dec-false (λ e. cons≢nil (sym e))
+dec-same (x ∷ l) [] = dec-false cons≢nil
+dec-same (x ∷ l) (y ∷ m) = dec-iff ((λ p. ap₂ _∷_ (p .0) (p .1)), λ e. (cc, cc)) (dec-and (dec-eq x y) (dec-same l m))

@@ -8,10 +8,11 @@ use native.Mathlib.Omega.{arith}
 use native.Mathlib.Nat.{zero-div, div-eq-of-lt, eq-zero-or-pos, one-mul, pow-suc, eq-or-lt-of-le, le-of-suc-le-suc, not-suc-le-zero, lt-of-lt-of-le, lt-of-not-le}
 use lib.Arith.{bin-ind}
 use lib.Bits.{and-step, and-shr, or-step, or-shr, and-le-r, or-shifted}
+use lib.ListN.{getD}
 use lib.Pow.{shr-shr, shl-shr, pow-add, pow-mono, pow-lt, pow-pos}
 use Rattle.sets.specs.Decides.{is-true, Decides, decided, dec-iff, dec-not, dec-and, dec-eq}
-use Rattle.sets.specs.Lists.{_among_, here, later, nowhere, first-or-later}
-use Rattle.sets.specs.Sets.{_∈_, _⊆_, _⊂_, Meets, _∈?_, _⊆?_, _⊂?_, _meets?_, _∩_, _∪_, ∅, full, single, setOf, ⋂, ⋃}
+use Rattle.sets.specs.Lists.{_among_, here, later, nowhere, first-or-later, all-cons, all-getD}
+use Rattle.sets.specs.Sets.{_∈_, _⊆_, _⊂_, Meets, Below, _∈?_, _⊆?_, _⊂?_, _meets?_, _∩_, _∪_, ∅, full, single, setOf, ⋂, ⋃}
 
 -- ---- a member, by its bit
 pub dec-∈ : (a x : ℕ) → Decides (a ∈ x) (a ∈? x)
@@ -183,12 +184,22 @@ all-below (suc n) = rw (all-below n) (omega (arith, pow-suc 2 n, pow-pos n))
 pub ∈-full : (a n : ℕ) → a ∈ full n ↔ (a < n)
 ∈-full a n = rw (← all-below n) (λ m. ∈-setOf (λ _. true) a n .0 m .0, λ l. ∈-setOf (λ _. true) a n .1 (l, refl))
 
+-- below 2 ^ n is what has no bit at or above n: document 01's "a bit at or above the atom count", n being the number of atoms
+pub below-power : (n x : ℕ) → (x < 2 ^ n) ↔ ((a : ℕ) → a ∈ x → a < n)
+below-power n x = (
+  λ l a m. ∈-below l m,
+  λ f. let s : x ⊆ full n = record { into = λ {a} m. ∈-full a n .1 (f a m) } in omega (arith, ⊆-le s, pow-pos n),
+)
+
+pub getD-below : (n : ℕ) (xs : List ℕ) → Below n xs → (i : ℕ) → getD xs i 0 < 2 ^ n
+getD-below n xs f = all-getD (λ x. x < 2 ^ n) xs 0 f (pow-pos n)
+
 ∈-foldl-∩ : (a b : ℕ) (xs : List ℕ) → a ∈ foldl _∩_ b xs ↔ ((a ∈ b) × ((x : ℕ) → x among xs → a ∈ x))
 ∈-foldl-∩ a b [] = (λ m. (m, λ x k. absurd (nowhere k)), λ p. p .0)
 ∈-foldl-∩ a b (y ∷ xs) =
     let ih = ∈-foldl-∩ a (b ∩ y) xs in (
       λ m. let (k, f) = ih .0 m in
-          let (l, r) = ∈-∩ a b y .0 k in (l, λ x q. ⊎-elim (λ e. subst (λ z. a ∈ z) (sym e) r) (f x) (first-or-later q)),
+          let (l, r) = ∈-∩ a b y .0 k in (l, all-cons (λ z. a ∈ z) r f),
       λ p. ih .1 (∈-∩ a b y .1 (p .0, p .1 y here), λ x q. p .1 x (later q)),
     )
 

@@ -3,9 +3,9 @@ use Prim.Native.Nat.{ℕ, zero, suc, _<_}
 use mathlib.Core.Path.{_≡_, refl, sym, ap₂, _∙_, subst}
 use mathlib.Core.Bool.{Bool, true, false, cond}
 use mathlib.Core.List.{List, [], _∷_, _++_, map, List·Memᴰ·eq-of-singleton}
-use mathlib.Core.Logic.{_↔_, ⊎-elim}
+use mathlib.Core.Logic.{_↔_, inr, ⊎-elim}
 use native.Mathlib.Omega.{arith}
-use Rattle.sets.specs.Lists.{_among_, here, later, nowhere, first-or-later, keep, flat, upTo, downFrom, among-append, among-keep, among-map, among-flat, among-upTo, among-downFrom}
+use Rattle.sets.specs.Lists.{_among_, here, later, nowhere, first-or-later, all-cons, keep, flat, upTo, downFrom, among-append, among-keep, among-map, among-flat, among-upTo, among-downFrom}
 
 -- R holds of each member and every later one
 abbrev pub Pairwise : {A : Type 0} → (A → A → Type 0) → List A → Type 0
@@ -26,6 +26,16 @@ module _ {A : Type 0} where
   pairwise-append R [] m p q h = q
   pairwise-append R (x ∷ l) m p q h =
       (λ y k. ⊎-elim (p .0 y) (h x y here) (among-append l .0 k), pairwise-append R l m (p .1) q (λ z y k. h z y (later k)))
+
+  pub pairwise-snoc : (R : A → A → Type 0) (l : List A) (x : A) → Pairwise R l → ((y : A) → y among l → R y x) → Pairwise R (l ++ x ∷ [])
+  pairwise-snoc R l x p h =
+      pairwise-append R l (x ∷ []) p (λ y m. absurd (nowhere m), tt) (λ y z m n. subst (R y) (sym (List·Memᴰ·eq-of-singleton n)) (h y m))
+
+  -- a member before the seam, and one after it
+  pub pairwise-across : (R : A → A → Type 0) (l m : List A) → Pairwise R (l ++ m) → (x y : A) → x among l → y among m → R x y
+  pairwise-across R [] m p x y a b = absurd (nowhere a)
+  pairwise-across R (z ∷ l) m p x y a b =
+      all-cons (λ w. R w y) (p .0 y (among-append l .1 (inr b))) (λ w k. pairwise-across R l m (p .1) w y k b) x a
 
   pub pairwise-suffix : (R : A → A → Type 0) (l m : List A) → Pairwise R (l ++ m) → Pairwise R m
   pairwise-suffix R [] m p = p
@@ -67,9 +77,7 @@ module _ {A : Type 0} (R : A → A → Type 0) (strict : (x y : A) → R x y →
 pub upTo-rising : (n : ℕ) → Pairwise _<_ (upTo n)
 unfolding upTo
 upTo-rising zero = tt
-upTo-rising (suc n) =
-    pairwise-append _<_ (upTo n) (n ∷ []) (upTo-rising n) (λ y m. absurd (nowhere m), tt)
-    (λ x y k m. let l = among-upTo n .0 k in let e = List·Memᴰ·eq-of-singleton m in omega arith)
+upTo-rising (suc n) = pairwise-snoc _<_ (upTo n) n (upTo-rising n) (λ x m. among-upTo n .0 m)
 
 pub upTo-distinct : (n : ℕ) → Distinct (upTo n)
 upTo-distinct n = pairwise-map (upTo n) (λ x y _ _ l e. omega arith) (upTo-rising n)

@@ -1,12 +1,13 @@
 -- A number as a finite set: of atoms, or of epistemic negations. "Bit i (value 2^i) means atom i"; "A set is the number with its atoms'
 -- bits." Assumes nothing.
-use Prim.Native.Nat.{ℕ, zero, suc, _+_, _-_, _/_, _%_, _^_}
+use Prim.Native.Nat.{ℕ, zero, suc, _+_, _-_, _/_, _%_, _^_, _<_}
 use mathlib.Core.Path.{_≡_}
 use mathlib.Core.Bool.{Bool, not, _&&_, cond}
 use mathlib.Core.List.{List, foldl}
 use lib.Bits.{bitAnd, bitOr}
 use lib.Count.{ones}
 use lib.Dec.{eqb}
+use Rattle.sets.specs.Lists.{_among_}
 
 infix 45 _∈_ _⊆_ _⊂_ _∈?_ _⊆?_ _⊂?_ _meets?_
 infixl 66 _∩_
@@ -31,6 +32,13 @@ pub record Meets (x y : ℕ) : Type 0 where
   pub common : ℕ
   pub left : common ∈ x
   pub right : common ∈ y
+
+-- the sets of a list, and of several lists, have members below n only (`below-power` of Members.antt)
+abbrev pub Below : (n : ℕ) → List ℕ → Type 0
+Below n xs = (x : ℕ) → x among xs → x < 2 ^ n
+
+abbrev pub AllBelow : (n : ℕ) → List (List ℕ) → Type 0
+AllBelow n ls = (l : List ℕ) → l among ls → Below n l
 
 -- ---- the same as tests
 abbrev pub _∈?_ : ℕ → ℕ → Bool

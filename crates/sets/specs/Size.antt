@@ -10,7 +10,7 @@ use lib.Count.{ones, ones-cat, ones-le, onesIn}
 use lib.ListN.{length, length-append}
 use lib.Pow.{mod-pow-add, pow-pos}
 use Rattle.sets.specs.Decides.{decided, dec-eq}
-use Rattle.sets.specs.Lists.{_among_, keep, keep-snoc, among-kept, only, upTo, first-or-later}
+use Rattle.sets.specs.Lists.{_among_, keep, keep-snoc, among-kept, only, upTo, all-cons}
 use Rattle.sets.specs.Pairwise.{upTo-distinct, Distinct, pairwise-keep}
 use Rattle.sets.specs.Counting.{no-longer}
 use Rattle.sets.specs.Sets.{_∈_, _⊆_, _⊂_, _∈?_, size}
@@ -73,7 +73,7 @@ module _ {x y : ℕ} (s : x ⊆ y) where
       rw (size-members y x x-fits, size-members y y y-fits)
       (no-longer (a ∷ members y x) (members y y)
       (λ b k e. n (among-members y x x-fits .0 (subst (λ z. z among members y x) (sym e) k)), members-distinct y x)
-      (λ b k. ⊎-elim (λ e. among-members y y y-fits .1 (subst (λ z. z ∈ y) (sym e) m)) (mapped b) (first-or-later k)))
+      (all-cons (λ b. b among members y y) (among-members y y y-fits .1 m) mapped))
 
 pub size-⊂ : {x y : ℕ} → x ⊂ y → size x < size y
 size-⊂ {x} {y} s =

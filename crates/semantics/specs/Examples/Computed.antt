@@ -1,44 +1,65 @@
--- The definitions, and the walk, computed on the known sheets. Assumes nothing.
+-- The definitions, and the walk, computed on the bytes of the known sheets. Assumes nothing.
+use Prim.Native.Nat.{ℕ}
 use mathlib.Core.Path.{_≡_, refl}
 use mathlib.Core.List.{List, [], _∷_, _++_, map}
 use native.Mathlib.Decide.{ℕ-discrete}
 use lib.Count.{ones, onesIn}
-use Rattle.sets.specs.Lists.{every, some, keep, flat, upTo, downFrom}
+use Rattle.sets.specs.Lists.{every, some, keep, flat, upTo, downFrom, sameList}
 use Rattle.sets.specs.Sets.{setOf}
+use Rattle.semantics.specs.Definitions.Reading.{times}
+use Rattle.semantics.specs.Definitions.Sheet.{countAt, nameByteAt, nameAt, maskAt, ruleAt, sections}
 use Rattle.semantics.specs.Definitions.Reduct.{reductRule, reduct}
 use Rattle.semantics.specs.Definitions.Setting.{Setting, k}
+use Rattle.semantics.specs.Definitions.Check.{setting, opened, Returned, accepted, returned, check}
 use Rattle.semantics.specs.Definitions.Stable.{reductAt, stable}
 use Rattle.semantics.specs.Definitions.Verdict.{beliefSets, guessFound, verdict, empty, other}
 use Rattle.semantics.specs.Definitions.Propagation.{steps, contradicted}
 use Rattle.semantics.specs.Definitions.Order.{order}
-use Rattle.semantics.specs.Definitions.Listing.{isWorldView, covered, tallyOf, viewsAlong, listing}
+use Rattle.semantics.specs.Definitions.Listing.{View, Tally, isWorldView, covered, tallyOf, viewsAlong, listing}
 use Rattle.semantics.specs.Walk.{walk}
-use Rattle.semantics.specs.Examples.Sheets.{Listed, ten, kiln, sheet-2, sheet-3, sheet-6, sheet-7}
+use Rattle.semantics.specs.Examples.Sheets.{Listed, zeros, ten, kiln, sheet-2, sheet-3, sheet-6, sheet-7}
 use Rattle.semantics.specs.Examples.Own.{own}
+use Rattle.semantics.specs.Examples.Limits.{answers}
+
+-- the bytes read, and then something of their setting; or the refusal
+abbrev pub read : {A : Type 0} → (Setting → A) → List ℕ → Returned A
+read of s = returned (opened s) (λ x. accepted (of (setting x)))
 
 -- the list of a setting by the definitions, and by the walk along the order
-abbrev pub listed : Setting → Listed
-listed s = record { setting = s; views = listing s; tally = tallyOf s }
+abbrev listed : Setting → List View × Tally
+listed s = (listing s, tallyOf s)
 
-abbrev pub walked : Setting → Listed
-walked s = let x = walk s (order (k s)) in record { setting = s; views = x .met; tally = x .tally }
+abbrev walked : Setting → List View × Tally
+walked s = let x = walk s (order (k s)) in (x .met, x .tally)
 
 abbrev pub sheets : List Listed
 sheets = ten ++ kiln ∷ own
 
 -- "Sheets 1 to 10 are proved against the definitions, as one lemma over a list"; and what document 01 calls "Tempting to build"
 pub record Computed : Type 0 where
-  pub lists : map (λ e. listed (e .setting)) sheets ≡ sheets
-  pub walks : map (λ e. walked (e .setting)) sheets ≡ sheets
+  pub checks : map (λ e. check (e .bytes)) sheets ≡ map (λ e. accepted (e .numbers)) sheets
+  pub lists : map (λ e. read listed (e .bytes)) sheets ≡ map (λ e. accepted (e .views, e .tally)) sheets
+  pub walks : map (λ e. read walked (e .bytes)) sheets ≡ map (λ e. accepted (e .views, e .tally)) sheets
   -- "guess 0 of sheet 2 [..] is "other" (found 1)"
-  pub K-is-not-truth : verdict (sheet-2 .setting) 0 ≡ other 1
+  pub K-is-not-truth : read (λ s. verdict s 0) (sheet-2 .bytes) ≡ accepted (other 1)
   -- an empty W is not verified, though everything is known in it
-  pub empty-is-empty : verdict (sheet-3 .setting) 0 ≡ empty
+  pub empty-is-empty : read (λ s. verdict s 0) (sheet-3 .bytes) ≡ accepted empty
   -- "reading "not not a" as a, which loses a set in 7"
-  pub two-sets : beliefSets (sheet-7 .setting) 0 ≡ 0 ∷ 1 ∷ []
+  pub two-sets : read (λ s. beliefSets s 0) (sheet-7 .bytes) ≡ accepted (0 ∷ 1 ∷ [])
   -- "pruning equal sizes, which loses a view in 6"
-  pub two-views : map (λ v. v .guess) (listing (sheet-6 .setting)) ≡ 1 ∷ 2 ∷ []
+  pub two-views : read (λ s. map (λ v. v .guess) (listing s)) (sheet-6 .bytes) ≡ accepted (1 ∷ 2 ∷ [])
+  -- limit cases of the sheet
+  pub limits : map (λ p. check (p .0)) answers ≡ map (λ p. p .1) answers
 
 pub computed : Computed
-unfolding ℕ-discrete ones onesIn every some keep flat upTo downFrom setOf reductRule reduct reductAt stable beliefSets guessFound verdict steps contradicted order isWorldView covered tallyOf viewsAlong walk
-computed = record { lists = refl; walks = refl; K-is-not-truth = refl; empty-is-empty = refl; two-sets = refl; two-views = refl }
+unfolding ℕ-discrete ones onesIn every some keep flat upTo downFrom sameList setOf zeros times countAt nameByteAt nameAt maskAt ruleAt sections opened check reductRule reduct reductAt stable beliefSets guessFound verdict steps contradicted order isWorldView covered tallyOf viewsAlong walk
+computed = record {
+  checks = refl;
+  lists = refl;
+  walks = refl;
+  K-is-not-truth = refl;
+  empty-is-empty = refl;
+  two-sets = refl;
+  two-views = refl;
+  limits = refl;
+}

@@ -1,14 +1,45 @@
--- Document 01, "Sheets with known lists".
-use Prim.Native.Nat.{ℕ}
-use mathlib.Core.List.{List, [], _∷_}
-use lib.ListN.{getD}
-use Rattle.semantics.specs.Definitions.Rules.{EpistemicRule, ruleOf}
-use Rattle.semantics.specs.Definitions.Setting.{Setting, settingOf}
+-- Document 01, "Sheets with known lists": each sheet by its bytes.
+use Prim.Native.Nat.{ℕ, zero, suc, _/_, _%_}
+use mathlib.Core.List.{List, [], _∷_, _++_}
+use lib.ListN.{length}
+use Rattle.sets.specs.Lists.{flat}
+use Rattle.semantics.specs.Definitions.Check.{Numbers}
 use Rattle.semantics.specs.Definitions.Listing.{View, Tally}
 
--- a rule by its masks: head, plain, not, not not, K, not K, M, not M
-abbrev pub rule : (head plain nots notNots K notK M notM : ℕ) → EpistemicRule
-rule m0 m1 m2 m3 m4 m5 m6 m7 = ruleOf (λ i. getD (m0 ∷ m1 ∷ m2 ∷ m3 ∷ m4 ∷ m5 ∷ m6 ∷ m7 ∷ []) i 0)
+-- ---- bytes
+-- n zero bytes
+unfoldable pub zeros : ℕ → List ℕ
+zeros zero = []
+zeros (suc n) = 0 ∷ zeros n
+
+-- names of one byte, each after its length; "a, b, c are atoms 0, 1, 2."
+abbrev pub a : List ℕ
+a = 1 ∷ 97 ∷ []
+
+abbrev pub b : List ℕ
+b = 1 ∷ 98 ∷ []
+
+abbrev pub c : List ℕ
+c = 1 ∷ 99 ∷ []
+
+abbrev pub d : List ℕ
+d = 1 ∷ 100 ∷ []
+
+-- "two-byte fields have the low byte first"
+abbrev pub mask : ℕ → List ℕ
+mask m = m % 256 ∷ m / 256 ∷ []
+
+-- "each rule, 16 bytes: eight two-byte masks": head, plain, not, not not, K, not K, M, not M
+abbrev pub rule : (head plain nots notNots K notK M notM : ℕ) → List ℕ
+rule m0 m1 m2 m3 m4 m5 m6 m7 = mask m0 ++ mask m1 ++ mask m2 ++ mask m3 ++ mask m4 ++ mask m5 ++ mask m6 ++ mask m7
+
+-- the bytes of names and of rules, each section "after its count"
+abbrev pub sheet : (names rules : List (List ℕ)) → List ℕ
+sheet names rules = length names ∷ flat (λ n. n) names ++ length rules ∷ flat (λ r. r) rules
+
+-- ---- what is known of a sheet
+abbrev pub numbers : (atoms rules negations : ℕ) → Numbers
+numbers atoms rules negations = record { atoms = atoms; rules = rules; negations = negations }
 
 abbrev pub view : (guess known possible sets : ℕ) → View
 view guess known possible sets = record { guess = guess; known = known; possible = possible; sets = sets }
@@ -16,53 +47,67 @@ view guess known possible sets = record { guess = guess; known = known; possible
 abbrev pub tally : (views covered ruled tested empty other : ℕ) → Tally
 tally views covered ruled tested empty other = record { views = views; covered = covered; ruled = ruled; tested = tested; empty = empty; other = other }
 
--- a sheet with its list: "Views as (guess, known, possible, sets); tally as above."
+-- the bytes, what the check answers, and the list: "Views as (guess, known, possible, sets); tally as above."
 pub record Listed : Type 0 where
-  pub setting : Setting
+  pub bytes : List ℕ
+  pub numbers : Numbers
   pub views : List View
   pub tally : Tally
 
-abbrev pub sheet : ℕ → List EpistemicRule → List View → Tally → Listed
-sheet n rs vs t = record { setting = settingOf n rs; views = vs; tally = t }
+abbrev pub entry : List ℕ → Numbers → List View → Tally → Listed
+entry s n vs t = record { bytes = s; numbers = n; views = vs; tally = t }
 
--- "a, b, c are atoms 0, 1, 2."
+-- ---- the sheets
 module _ where
   -- a ← K a
   abbrev pub sheet-2 : Listed
-  sheet-2 = sheet 1 (rule 1 0 0 0 1 0 0 0 ∷ []) (view 1 0 0 1 ∷ []) (tally 1 1 0 1 0 0)
+  sheet-2 = entry (sheet (a ∷ []) (rule 1 0 0 0 1 0 0 0 ∷ [])) (numbers 1 1 1) (view 1 0 0 1 ∷ []) (tally 1 1 0 1 0 0)
 
   -- a ← not K a
   abbrev pub sheet-3 : Listed
-  sheet-3 = sheet 1 (rule 1 0 0 0 0 1 0 0 ∷ []) [] (tally 0 0 1 1 1 0)
+  sheet-3 = entry (sheet (a ∷ []) (rule 1 0 0 0 0 1 0 0 ∷ [])) (numbers 1 1 1) [] (tally 0 0 1 1 1 0)
 
   -- a ← not K b; b ← not K a
   abbrev pub sheet-6 : Listed
-  sheet-6 = sheet 2 (rule 1 0 0 0 0 2 0 0 ∷ rule 2 0 0 0 0 1 0 0 ∷ []) (view 1 2 2 1 ∷ view 2 1 1 1 ∷ []) (tally 2 1 1 2 0 0)
+  sheet-6 =
+      entry (sheet (a ∷ b ∷ []) (rule 1 0 0 0 0 2 0 0 ∷ rule 2 0 0 0 0 1 0 0 ∷ [])) (numbers 2 2 2)
+      (view 1 2 2 1 ∷ view 2 1 1 1 ∷ []) (tally 2 1 1 2 0 0)
 
   -- a ← not not a
   abbrev pub sheet-7 : Listed
-  sheet-7 = sheet 1 (rule 1 0 0 1 0 0 0 0 ∷ []) (view 0 0 1 2 ∷ []) (tally 1 0 0 1 0 0)
+  sheet-7 = entry (sheet (a ∷ []) (rule 1 0 0 1 0 0 0 0 ∷ [])) (numbers 1 1 0) (view 0 0 1 2 ∷ []) (tally 1 0 0 1 0 0)
 
   abbrev pub ten : List Listed
   ten =
-      -- bytes 0, 0
-      sheet 0 [] (view 0 0 0 1 ∷ []) (tally 1 0 0 1 0 0)
+      -- "Bytes 0, 0"
+      entry (0 ∷ 0 ∷ []) (numbers 0 0 0) (view 0 0 0 1 ∷ []) (tally 1 0 0 1 0 0)
       ∷ sheet-2
       ∷ sheet-3
       -- a ← M a
-      ∷ sheet 1 (rule 1 0 0 0 0 0 1 0 ∷ []) (view 1 1 1 1 ∷ []) (tally 1 1 0 1 0 0)
+      ∷ entry (sheet (a ∷ []) (rule 1 0 0 0 0 0 1 0 ∷ [])) (numbers 1 1 1) (view 1 1 1 1 ∷ []) (tally 1 1 0 1 0 0)
       -- a ← not M a
-      ∷ sheet 1 (rule 1 0 0 0 0 0 0 1 ∷ []) [] (tally 0 0 1 1 1 0)
+      ∷ entry (sheet (a ∷ []) (rule 1 0 0 0 0 0 0 1 ∷ [])) (numbers 1 1 1) [] (tally 0 0 1 1 1 0)
       ∷ sheet-6
       ∷ sheet-7
       -- a or b
-      ∷ sheet 2 (rule 3 0 0 0 0 0 0 0 ∷ []) (view 0 0 3 2 ∷ []) (tally 1 0 0 1 0 0)
+      ∷ entry (sheet (a ∷ b ∷ []) (rule 3 0 0 0 0 0 0 0 ∷ [])) (numbers 2 1 0) (view 0 0 3 2 ∷ []) (tally 1 0 0 1 0 0)
       -- a; ← a
-      ∷ sheet 1 (rule 1 0 0 0 0 0 0 0 ∷ rule 0 1 0 0 0 0 0 0 ∷ []) [] (tally 0 0 1 0 0 0)
+      ∷ entry (sheet (a ∷ []) (rule 1 0 0 0 0 0 0 0 ∷ rule 0 1 0 0 0 0 0 0 ∷ [])) (numbers 1 2 0) [] (tally 0 0 1 0 0 0)
       -- c ← M a; a ← b; b ← a
-      ∷ sheet 3 (rule 4 0 0 0 0 0 1 0 ∷ rule 1 2 0 0 0 0 0 0 ∷ rule 2 1 0 0 0 0 0 0 ∷ []) (view 0 0 0 1 ∷ []) (tally 1 0 0 2 0 1)
+      ∷ entry (sheet (a ∷ b ∷ c ∷ []) (rule 4 0 0 0 0 0 1 0 ∷ rule 1 2 0 0 0 0 0 0 ∷ rule 2 1 0 0 0 0 0 0 ∷ [])) (numbers 3 3 1)
+      (view 0 0 0 1 ∷ []) (tally 1 0 0 2 0 1)
       ∷ []
 
 -- the example of `views`: glaze or bisque; ← not K glaze
 abbrev pub kiln : Listed
-kiln = sheet 2 (rule 3 0 0 0 0 0 0 0 ∷ rule 0 0 0 0 0 1 0 0 ∷ []) (view 0 1 1 1 ∷ []) (tally 1 0 1 1 0 0)
+kiln = entry bytes (numbers 2 2 1) (view 0 1 1 1 ∷ []) (tally 1 0 1 1 0 0)
+  where
+    glaze : List ℕ
+    glaze = 5 ∷ 103 ∷ 108 ∷ 97 ∷ 122 ∷ 101 ∷ []
+
+    bisque : List ℕ
+    bisque = 6 ∷ 98 ∷ 105 ∷ 115 ∷ 113 ∷ 117 ∷ 101 ∷ []
+
+    -- "second rule: ten zero bytes, 1, five zero bytes"
+    bytes : List ℕ
+    bytes = 2 ∷ glaze ++ bisque ++ 2 ∷ (3 ∷ zeros 15) ++ (zeros 10 ++ 1 ∷ zeros 5)

@@ -29,7 +29,7 @@ atomOf (not-known a) = a
 atomOf (may-be a) = a
 
 module _ (rs : List EpistemicRule) where
-  dec-mentioned : (m m′ : Subjective) (a : ℕ) → Decides (Mentioned rs m m′ a) (mentioned rs m m′ a)
+  pub dec-mentioned : (m m′ : Subjective) (a : ℕ) → Decides (Mentioned rs m m′ a) (mentioned rs m m′ a)
   dec-mentioned m m′ a = dec-some _ _ rs (λ r _. dec-or (dec-∈ a (r .mask m)) (dec-∈ a (r .mask m′)))
 
   -- a negation d of a that is there if a literal of one of two kinds appears

@@ -11,7 +11,7 @@ use borrow.Author.Tests.{ltb-true, lt-ltb}
 use Rattle.sets.specs.Decides.{dec-eq}
 use Rattle.sets.specs.Lists.{_among_, keep, among-keep, among-kept, upTo, downFrom, among-downFrom, among-flat}
 use Rattle.sets.specs.Pairwise.{upTo-rising, downFrom-falling, Pairwise, Distinct, pairwise-map, pairwise-keep, pairwise-flat, sorted-same}
-use Rattle.sets.specs.Sets.{size}
+use Rattle.sets.specs.Sets.{Below, size}
 use Rattle.sets.specs.Size.{size-below}
 use Rattle.semantics.specs.Definitions.Order.{order}
 
@@ -21,7 +21,7 @@ Before g h = (size h < size g) ⊎ ((size g ≡ size h) × (g < h))
 
 -- What the theorems on the listing ask of an order of guesses: it has every guess of k negations, each once, and those of larger size first.
 pub record Enumerates (k : ℕ) (l : List ℕ) : Type 0 where
-  pub below : (g : ℕ) → g among l → g < 2 ^ k
+  pub below : Below k l
   pub all : (g : ℕ) → g < 2 ^ k → g among l
   pub once : Distinct l
   pub larger-first : Pairwise (λ g h. size h ≤ size g) l

@@ -3,8 +3,8 @@ use Prim.Native.Nat.{_+_, _^_}
 use mathlib.Core.Path.{_≡_, refl, sym, ap, _∙_}
 use mathlib.Core.Bool.{Bool, true, false, not, _&&_}
 use lib.ListN.{length}
-use Rattle.sets.specs.Lists.{among-upTo}
-use Rattle.sets.specs.Counting.{one, length-shared, keep-all, length-upTo}
+use Rattle.sets.specs.Lists.{among-upTo, length-upTo}
+use Rattle.sets.specs.Counting.{one, length-shared, keep-all}
 use Rattle.semantics.specs.Definitions.Setting.{Setting, k, guesses}
 use Rattle.semantics.specs.Definitions.Verdict.{Verdict, empty, other, verified, verdict, isEmpty, isOther, isVerified}
 use Rattle.semantics.specs.Definitions.Propagation.{contradicted}

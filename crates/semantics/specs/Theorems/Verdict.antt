@@ -8,7 +8,7 @@ use lib.Dec.{eqb}
 use lib.ListN.{length}
 use Rattle.sets.specs.Decides.{Decides, decided, dec-iff, dec-not, dec-and, dec-eq}
 use Rattle.sets.specs.Lists.{_among_, null, dec-some, dec-member}
-use Rattle.sets.specs.Sets.{_∈_, _∈?_}
+use Rattle.sets.specs.Sets.{_∈_, Below, _∈?_}
 use Rattle.sets.specs.Members.{dec-∈, ∈-below, ∈-ext, ∈-⋂, ∈-⋃, ∈-setOf-dec, setOf-below}
 use Rattle.semantics.specs.Definitions.Guesses.{Negation, not-known, may-be}
 use Rattle.semantics.specs.Definitions.Setting.{Setting, k, negation}
@@ -26,7 +26,7 @@ pub record Verifiable (s : Setting) (g : ℕ) : Type 0 where
   pub exact : (j : ℕ) → j < k s → (j ∈ g) ↔ Satisfied (beliefSets s g) (negation s j)
 
 -- ---- known and possible are "in every set of W" and "in some set of W"
-module _ (s : Setting) (w : List ℕ) (within : (i : ℕ) → i among w → i < 2 ^ s .atoms) (first : (i : ℕ) × (i among w)) where
+module _ (s : Setting) (w : List ℕ) (within : Below (s .atoms) w) (first : (i : ℕ) × (i among w)) where
   pub known-is : (a : ℕ) → a ∈ knownIn s w ↔ ((i : ℕ) → i among w → a ∈ i)
   known-is a = (
     λ m. ∈-⋂ a (s .atoms) w .0 m .1,
@@ -67,7 +67,7 @@ module _ (f n p m : ℕ) where
   says false false = ((λ e. refl), λ e. absurd (true≢false (sym e)))
 
 module _ (s : Setting) (g : ℕ) where
-  pub belief-below : (i : ℕ) → i among beliefSets s g → i < 2 ^ s .atoms
+  pub belief-below : Below (s .atoms) (beliefSets s g)
   belief-below i m = among-belief-sets s g .0 m .0
 
   -- a reduct-verifiable guess is the guess found

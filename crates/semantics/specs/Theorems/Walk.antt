@@ -4,14 +4,14 @@ use Prim.Native.Nat.{ℕ, _+_, _^_, _≤_, _<_}
 use mathlib.Core.Path.{_≡_, refl, sym, ap, _∙_, subst}
 use mathlib.Core.Bool.{Bool, true, false, not, _&&_, cond}
 use mathlib.Core.List.{List, [], _∷_, _++_, foldl, map, append-nil, append-assoc, map-append}
-use mathlib.Core.Logic.{inl, inr, ⊎-elim}
+use mathlib.Core.Logic.{inl, ⊎-elim}
 use native.Mathlib.Omega.{arith}
 use lib.ListN.{length, length-append}
 use Rattle.sets.specs.Decides.{is-true, dec-one, dec-iff}
-use Rattle.sets.specs.Lists.{_among_, here, first-or-later, among-append, some, keep, among-keep, among-map, keep-snoc, only, dec-some, among-upTo}
+use Rattle.sets.specs.Lists.{_among_, first-or-later, among-append, among-middle, some, keep, among-keep, among-map, keep-snoc, only, dec-some, among-upTo}
 use Rattle.sets.specs.Pairwise.{Pairwise, pairwise-keep, pairwise-suffix, upTo-distinct}
 use Rattle.sets.specs.Counting.{as-long}
-use Rattle.sets.specs.Sets.{_⊂_, _⊂?_, size}
+use Rattle.sets.specs.Sets.{_⊂_, Below, _⊂?_, size}
 use Rattle.sets.specs.Members.{dec-⊂}
 use Rattle.sets.specs.Size.{size-⊂}
 use Rattle.semantics.specs.Definitions.Setting.{Setting, k, guesses}
@@ -91,7 +91,7 @@ module _ (s : Setting) where
     sees-covered : (d r : List ℕ) (g : ℕ) → d ++ g ∷ r ≡ l → seen d g ≡ covered s g
     unfolding viewsAlong
     sees-covered d r g e =
-        let is-below : (h : ℕ) → h among d → h < 2 ^ k s = λ h m. en .below h (subst (λ z. h among z) e (among-append d .1 (inl m))) in
+        let is-below : Below (k s) d = λ h m. en .below h (subst (λ z. h among z) e (among-append d .1 (inl m))) in
         dec-one
         (dec-iff (
           λ q. let (v, m, p) = q in
@@ -105,7 +105,7 @@ module _ (s : Setting) where
     walk-from : (r d : List ℕ) → d ++ r ≡ l → foldl (advance s) (meant d) r ≡ meant l
     walk-from [] d e = ap meant (sym (append-nil d) ∙ e)
     walk-from (g ∷ r) d e =
-        ap (λ x. foldl (advance s) x r) (meant-more d g (en .below g (subst (λ z. g among z) e (among-append d .1 (inr here)))) (sees-covered d r g e))
+        ap (λ x. foldl (advance s) x r) (meant-more d g (en .below g (among-middle d g r e)) (sees-covered d r g e))
         ∙ walk-from r (d ++ g ∷ []) (append-assoc d (g ∷ []) r ∙ e)
 
     -- as many along the list as among all guesses

@@ -1,0 +1,43 @@
+-- Document 01, "Turned back at the door": refusal 7. What a call answers, and what the check does.
+use Prim.Native.Nat.{ℕ}
+use lib.Dec.{leb}
+use lib.ListN.{length}
+use mathlib.Core.List.{List}
+use Rattle.semantics.specs.Definitions.Reading.{Reading, field, refused, _then_, require}
+use Rattle.semantics.specs.Definitions.Sheet.{Sheet, atoms, epistemicRules, sections}
+use Rattle.semantics.specs.Definitions.Setting.{Setting, settingOf, k}
+
+-- "k of 12 passes, 13 gives 7."
+abbrev pub mostNegations : ℕ
+mostNegations = 12
+
+-- what the rest of document 01 is said of, for a sheet
+abbrev pub setting : Sheet → Setting
+setting x = settingOf (atoms x) (epistemicRules x)
+
+-- What every call checks first: 1 to 6, and then "7, 0" where "k over 12"
+unfoldable pub opened : List ℕ → Reading Sheet
+opened s =
+    sections s then λ x end.
+    require (leb (k (setting x)) mostNegations) 7 0
+    (field x end)
+
+-- What a call returns: its values where it is accepted, or the refusal's number and place (a place in the sheet, or the other number that
+-- the table "Returned" gives).
+pub data Returned (A : Type 0) : Type 0 where
+  accepted : (values : A) → Returned A
+  refusal : (number place : ℕ) → Returned A
+
+-- the refusal that ended the reading, or what is returned for the sheet
+abbrev pub returned : {A : Type 0} → Reading Sheet → (Sheet → Returned A) → Returned A
+returned (field x end) of = of x
+returned (refused number place) of = refusal number place
+
+-- "The check of an accepted sheet answers with the numbers of atoms, of rules and of negations (k, below)."
+pub record Numbers : Type 0 where
+  pub atoms : ℕ
+  pub rules : ℕ
+  pub negations : ℕ
+
+unfoldable pub check : List ℕ → Returned Numbers
+check s = returned (opened s) (λ x. accepted (record { atoms = atoms x; rules = length (x .rules); negations = k (setting x) }))
