@@ -1,0 +1,4 @@
+-- What the answers of the code mean.
+pub mod Steps
+pub mod Opened
+pub mod Fetched

@@ -1,0 +1,26 @@
+-- What opening a sheet answers.
+use lib.ListN.{length}
+use Rattle.semantics.specs.Definitions.Reading.{Reading, field, refused}
+use Rattle.semantics.specs.Definitions.Sheet.{Sheet, atoms}
+use Rattle.semantics.specs.Definitions.Setting.{k}
+use Rattle.semantics.specs.Definitions.Check.{setting}
+use Rattle.semantics.specs.Fields.{kAtoms, mAtoms}
+use Rattle.sheet.specs.declared.Contents.{Contents}
+use Rattle.sheet.specs.declared.Opened.{Opened}
+use Rattle.sheet.specs.declared.Opened.the-variants.{Accepted, Refused}
+
+-- what is kept of an accepted sheet
+abbrev pub contents : Sheet → Contents
+contents x = record {
+  atoms = atoms x;
+  rules = length (x .rules);
+  negations = k (setting x);
+  «rules_at» = x .rulesAt;
+  «k_atoms» = kAtoms (x .rules);
+  «m_atoms» = mAtoms (x .rules);
+}
+
+-- a reading of the sheet as the answer of `open`
+abbrev pub openedOf : Reading Sheet → Opened
+openedOf (field x end) = Accepted (contents x)
+openedOf (refused number place) = Refused number place

@@ -1,0 +1,88 @@
+// A sheet, opened: whether it is accepted, what it says, and its rules by number.
+mod fields;
+mod names;
+mod rules;
+mod sections;
+mod steps;
+
+use fields::word;
+use sections::sections as read_sections;
+use sets::size;
+use steps::Field;
+ghost use mathlib.Core.Path.{_≡_};
+ghost use Prim.Native.Nat.{_+_, _*_, _<_, _≤_};
+ghost use lib.ListN.{length};
+ghost use Rattle.semantics.specs.Definitions.Sheet.{wordAt};
+ghost use Rattle.semantics.specs.Definitions.Check.{opened};
+ghost use Rattle.sheet.specs.Opened.{openedOf};
+ghost use Rattle.sheet.specs.Fetched.{fetched};
+
+// What is kept of an accepted sheet.
+pub struct Contents {
+    pub atoms: usize,
+    pub rules: usize,
+    pub negations: usize,
+    // where the rules begin
+    pub rules_at: usize,
+    // the atoms under K or "not K", and under M or "not M"
+    pub k_atoms: u16,
+    pub m_atoms: u16,
+}
+
+// What opening a sheet answers.
+pub enum Opened {
+    Accepted(Contents),
+    Refused(u8, usize),
+}
+
+// What fetching a rule answers.
+pub enum Fetched {
+    // the place of its first byte
+    Rule { place: usize },
+    NoRule,
+}
+
+// The sheet, if it is accepted.
+pub fn open(s: &[u8]) -> Opened
+    ensures { λ r. ⌜ r ≡ openedOf (opened (now (s .entry))) ⌝ }
+{
+    match read_sections(s) {
+        Field::Got(_, c) => {
+            let k = size(c.k_atoms) + size(c.m_atoms);
+            if 12 < k {
+                return Opened::Refused(7, 0);
+            }
+            Opened::Accepted(Contents {
+                atoms: c.atoms,
+                rules: c.rules,
+                negations: k as usize,
+                rules_at: c.rules_at,
+                k_atoms: c.k_atoms,
+                m_atoms: c.m_atoms,
+            })
+        }
+        Field::Refused(number, place) => Opened::Refused(number, place),
+    }
+}
+
+// The rule of a number, of a sheet whose rules begin at a place (of an accepted sheet: `fetched-rule`, `fetched-none`).
+pub fn fetch(s: &[u8], rules_at: usize, number: usize) -> Fetched
+    ensures { λ r. ⌜ r ≡ fetched (now (s .entry)) «rules_at» number ⌝ }
+{
+    if rules_at <= s.len() {
+        if number < (s.len() - rules_at) / 16 {
+            return Fetched::Rule {
+                place: rules_at + 16 * number,
+            };
+        }
+    }
+    Fetched::NoRule
+}
+
+// Mask i of the rule at a place.
+pub fn mask_of(s: &[u8], rule: usize, i: usize) -> u16
+    requires { ⌜ (rule + 16 ≤ length (now s)) × (i < 8) ⌝ }
+    ensures { λ r. ⌜ r ≡ wordAt (now (s .entry)) (rule + 2 * i) ⌝ }
+{
+    word(s, rule + 2 * i)
+}
