@@ -1,0 +1,55 @@
+-- `engine::check` meets its contract. Assumes nothing.
+use borrow.Author.Needs.{needs}
+use lib.ListN.{length}
+use mathlib.Core.Path.{_≡_, sym, _∙_}
+use native.Mathlib.Omega.{arith}
+use Prim.Native.Nat.{ℕ}
+use Rattle.semantics.specs.Definitions.Reading.{Reading, field, refused}
+use Rattle.semantics.specs.Definitions.Sheet.{Sheet, atoms}
+use Rattle.semantics.specs.Definitions.Setting.{k}
+use Rattle.semantics.specs.Definitions.Check.{setting, opened, Returned, accepted, refusal, returned, Numbers, check}
+use Rattle.sheet.specs.declared.Contents.{Contents}
+use Rattle.sheet.specs.declared.Opened.the-variants.{Accepted, Refused}
+use Rattle.sheet.specs.Opened.{contents, openedOf}
+use Rattle.engine.proofs.check.Statement.{statement}
+use Rattle.engine.proofs.check.Tie as tie
+
+-- what the check returns for a reading of the sheet
+abbrev of : Reading Sheet → Returned Numbers
+of r = returned r (λ x. accepted (record { atoms = atoms x; rules = length (x .rules); negations = k (setting x) }))
+
+-- the same from what opening the sheet answers
+opened-accepted : (r : Reading Sheet) {x : Contents} → openedOf r ≡ Accepted x
+    → accepted (record { atoms = x .atoms; rules = x .rules; negations = x .negations }) ≡ of r
+opened-accepted (field y end) {x} e =
+    let same : x ≡ contents y = cc in
+    rw same
+opened-accepted (refused number place) e = let z : _≡_ {A = ℕ} 0 1 = cc in absurd (omega arith)
+
+opened-refused : (r : Reading Sheet) {number place : ℕ} → openedOf r ≡ Refused number place → refusal number place ≡ of r
+opened-refused (field x end) e = let z : _≡_ {A = ℕ} 0 1 = cc in absurd (omega arith)
+opened-refused (refused number place) e = cc
+
+open-requires : tie.Need-open-requires
+open-requires c κs = search needs
+
+enum-known-x : tie.Need-enum-known-x
+enum-known-x c = search needs
+
+enum-known-number : tie.Need-enum-known-number
+enum-known-number c = search needs
+
+returns : tie.Need-returns
+unfolding check
+returns c =
+    opened-accepted (opened (c .before .before .before .before .before .args .sheet .now))
+    (sym (c .before .before .before .«open» .ensures) ∙ c .before .x .given .1)
+
+returns-2 : tie.Need-returns-2
+unfolding check
+returns-2 c =
+    opened-refused (opened (c .before .before .before .before .before .args .sheet .now))
+    (sym (c .before .before .before .«open» .ensures) ∙ c .before .number .given .1)
+
+pub check-spec : {M : Type 1} → statement M
+check-spec = tie.close (tie.spec open-requires enum-known-x enum-known-number returns returns-2)

@@ -1,0 +1,2 @@
+-- What the answers of the calls mean.
+pub mod Answers
