@@ -33,52 +33,22 @@ module _ {A : Type 0} (number : A → ℕ) (c : Cursor) (r : Reading A) {f : Fie
       let at : next ≡ c′ .at = ap (λ z. z .at) (sym p) in
       (x, e ∙ ap (field x) at, n, p ∙ ap (moved c) at)
 
--- how the reading ends, section by section
-module _ (s : List ℕ) where
-  abbrev answer : Reading Rattle.semantics.specs.Definitions.Sheet.Sheet → Field
-  answer = fieldOf (λ x. length (x .rules)) cursorOf
-
-  no-atoms : {k p : ℕ} → countAt s 15 0 ≡ refused k p → sections s ≡ refused k p
-  unfolding sections
-  no-atoms e = rw e
-
-  module _ (n at₁ : ℕ) (e₁ : countAt s 15 0 ≡ field n at₁) where
-    no-names : {k p : ℕ} → times n [] (nameAt s) at₁ ≡ refused k p → sections s ≡ refused k p
-    unfolding sections
-    no-names e = rw (e₁, e)
-
-    module _ (names : List (List ℕ)) (at₂ : ℕ) (e₂ : times n [] (nameAt s) at₁ ≡ field names at₂) where
-      no-count : {k p : ℕ} → countAt s 64 at₂ ≡ refused k p → sections s ≡ refused k p
-      unfolding sections
-      no-count e = rw (e₁, e₂, e)
-
-      module _ (m at₃ : ℕ) (e₃ : countAt s 64 at₂ ≡ field m at₃) where
-        no-rules : {k p : ℕ} → times m [] (λ _. ruleAt s n) at₃ ≡ refused k p → sections s ≡ refused k p
-        unfolding sections
-        no-rules e = rw (e₁, e₂, e₃, e)
-
-        module _ (rules : List (List ℕ)) (end : ℕ) (e₄ : times m [] (λ _. ruleAt s n) at₃ ≡ field rules end) where
-          more : (end ≡ length s → ⊥) → sections s ≡ refused 6 end
-          unfolding sections
-          more h = rw (e₁, e₂, e₃, e₄, ne-eqb end (length s) h)
-
-          whole : end ≡ length s → Got m (moved (noted (rules-from n m at₃) rules) end) ≡ answer (sections s)
-          unfolding sections
-          whole h =
-              let ln = times-length (nameAt s) n at₁ e₂ in
-              let lm = times-length (λ _. ruleAt s n) m at₃ e₄ in
-              rw (e₁, e₂, e₃, e₄, eq-eqb end (length s) h, ln, lm)
-
 abbrev with-atoms : ℕ → Cursor → Cursor
 with-atoms n c = record { at = c .at; atoms = n; rules = c .rules; «rules_at» = c .«rules_at»; «k_atoms» = c .«k_atoms»; «m_atoms» = c .«m_atoms» }
 
 abbrev with-rules : ℕ → Cursor → Cursor
 with-rules m c = record { at = c .at; atoms = c .atoms; rules = m; «rules_at» = c .at; «k_atoms» = c .«k_atoms»; «m_atoms» = c .«m_atoms» }
 
--- the same by the answers of the code's steps
+-- each way that the reading ends, section by section, by the answers of the code's steps
 module _ (s : List ℕ) {a : Field} (A : a ≡ fieldOf (λ n. n) (λ _. moved (before 0 0)) (countAt s 15 0)) where
-  stop-1 : {k p : ℕ} → a ≡ Refused k p → a ≡ answer s (sections s)
-  stop-1 told = told ∙ sym (ap (answer s) (no-atoms s (was-refused (λ n. n) (λ _. moved (before 0 0)) (countAt s 15 0) A told)))
+  abbrev answer : Field
+  answer = fieldOf (λ x. length (x .rules)) cursorOf (sections s)
+
+  stop-1 : {k p : ℕ} → a ≡ Refused k p → a ≡ answer
+  unfolding sections
+  stop-1 told =
+      let e = was-refused (λ n. n) (λ _. moved (before 0 0)) (countAt s 15 0) A told in
+      told ∙ rw e
 
   module _ {n : ℕ} {c₁ : Cursor} (ta : a ≡ Got n c₁) where
     counted : (countAt s 15 0 ≡ field n (c₁ .at)) × (c₁ ≡ before 0 (c₁ .at))
@@ -86,24 +56,29 @@ module _ (s : List ℕ) {a : Field} (A : a ≡ fieldOf (λ n. n) (λ _. moved (b
         let (x, e, v, p) = was-moved (λ n. n) (before 0 0) (countAt s 15 0) A ta in
         (e ∙ ap (λ z. field z (c₁ .at)) (sym v), p)
 
-    module _ {b : Field} (B : b ≡ fieldOf (λ _. n) (λ _. moved (with-atoms n c₁)) (times n [] (nameAt s) (c₁ .at))) where
-      stop-2 : {k p : ℕ} → b ≡ Refused k p → b ≡ answer s (sections s)
+    abbrev names-step : Reading (List (List ℕ))
+    names-step = times n [] (nameAt s) (c₁ .at)
+
+    module _ {b : Field} (B : b ≡ fieldOf (λ _. n) (λ _. moved (with-atoms n c₁)) names-step) where
+      stop-2 : {k p : ℕ} → b ≡ Refused k p → b ≡ answer
+      unfolding sections
       stop-2 told =
-          told ∙ sym (ap (answer s) (no-names s n (c₁ .at) (counted .0)
-          (was-refused (λ _. n) (λ _. moved (with-atoms n c₁)) (times n [] (nameAt s) (c₁ .at)) B told)))
+          let e = was-refused (λ _. n) (λ _. moved (with-atoms n c₁)) names-step B told in
+          told ∙ rw (counted .0, e)
 
       module _ {v₂ : ℕ} {c₂ : Cursor} (tb : b ≡ Got v₂ c₂) where
-        named : (names : List (List ℕ)) × (times n [] (nameAt s) (c₁ .at) ≡ field names (c₂ .at)) × (c₂ ≡ before n (c₂ .at))
+        named : (names : List (List ℕ)) × (names-step ≡ field names (c₂ .at)) × (c₂ ≡ before n (c₂ .at))
         named =
-            let (names, e, _, p) = was-moved (λ _. n) (with-atoms n c₁) (times n [] (nameAt s) (c₁ .at)) B tb in
+            let (names, e, _, p) = was-moved (λ _. n) (with-atoms n c₁) names-step B tb in
             (names, e, p ∙ ap (λ z. moved (with-atoms n z) (c₂ .at)) (counted .1))
 
         module _ {d : Field} (D : d ≡ fieldOf (λ n. n) (λ _. moved c₂) (countAt s 64 (c₂ .at))) where
-          stop-3 : {k p : ℕ} → d ≡ Refused k p → d ≡ answer s (sections s)
+          stop-3 : {k p : ℕ} → d ≡ Refused k p → d ≡ answer
+          unfolding sections
           stop-3 told =
-              let (names, e, _) = named in
-              told ∙ sym (ap (answer s) (no-count s n (c₁ .at) (counted .0) names (c₂ .at) e
-              (was-refused (λ n. n) (λ _. moved c₂) (countAt s 64 (c₂ .at)) D told)))
+              let (_, names, _) = named in
+              let e = was-refused (λ n. n) (λ _. moved c₂) (countAt s 64 (c₂ .at)) D told in
+              told ∙ rw (counted .0, names, e)
 
           module _ {m : ℕ} {c₃ : Cursor} (td : d ≡ Got m c₃) where
             rule-count : (countAt s 64 (c₂ .at) ≡ field m (c₃ .at)) × (c₃ ≡ before n (c₃ .at))
@@ -116,38 +91,48 @@ module _ (s : List ℕ) {a : Field} (A : a ≡ fieldOf (λ n. n) (λ _. moved (b
                 let (_, _, h, _) = count-field s 15 0 n (c₁ .at) (counted .0) in
                 omega (arith, ap (λ z. z .atoms) (rule-count .1))
 
-            module _ {f : Field} (F : f ≡ fieldOf (λ _. m) (λ rules. moved (noted (with-rules m c₃) rules)) (times m [] (λ _. ruleAt s (c₃ .atoms)) (c₃ .at))) where
-              abbrev steps : Reading (List (List ℕ))
-              steps = times m [] (λ _. ruleAt s n) (c₃ .at)
+            abbrev rules-cursor : List (List ℕ) → ℕ → Cursor
+            rules-cursor rules = moved (noted (rules-from n m (c₃ .at)) rules)
 
-              of-atoms : f ≡ fieldOf (λ _. m) (λ rules. moved (noted (rules-from n m (c₃ .at)) rules)) steps
+            abbrev rules-step : Reading (List (List ℕ))
+            rules-step = times m [] (λ _. ruleAt s n) (c₃ .at)
+
+            module _ {f : Field}
+                (F : f ≡ fieldOf (λ _. m) (λ rules. moved (noted (with-rules m c₃) rules)) (times m [] (λ _. ruleAt s (c₃ .atoms)) (c₃ .at))) where
+              of-atoms : f ≡ fieldOf (λ _. m) rules-cursor rules-step
               of-atoms =
-                  F ∙ ap (λ z. fieldOf (λ _. m) (λ rules. moved (noted (with-rules m z) rules)) (times m [] (λ _. ruleAt s (z .atoms)) (z .at))) (rule-count .1)
+                  F ∙ ap (λ z. fieldOf (λ _. m) (λ rules. moved (noted (with-rules m z) rules)) (times m [] (λ _. ruleAt s (z .atoms)) (z .at)))
+                  (rule-count .1)
 
-              stop-4 : {k p : ℕ} → f ≡ Refused k p → f ≡ answer s (sections s)
+              stop-4 : {k p : ℕ} → f ≡ Refused k p → f ≡ answer
+              unfolding sections
               stop-4 told =
-                  let (names, e, _) = named in
-                  told ∙ sym (ap (answer s) (no-rules s n (c₁ .at) (counted .0) names (c₂ .at) e m (c₃ .at) (rule-count .0)
-                  (was-refused (λ _. m) (λ rules. moved (noted (rules-from n m (c₃ .at)) rules)) steps of-atoms told)))
+                  let (_, names, _) = named in
+                  let e = was-refused (λ _. m) rules-cursor rules-step of-atoms told in
+                  told ∙ rw (counted .0, names, rule-count .0, e)
 
               module _ {v₄ : ℕ} {c₄ : Cursor} (tf : f ≡ Got v₄ c₄) where
-                all : (rules : List (List ℕ)) × (steps ≡ field rules (c₄ .at)) × (c₄ ≡ moved (noted (rules-from n m (c₃ .at)) rules) (c₄ .at))
+                all : (rules : List (List ℕ)) × (rules-step ≡ field rules (c₄ .at)) × (c₄ ≡ rules-cursor rules (c₄ .at))
                 all =
-                    let (rules, end, e, _, p) = was-field (λ _. m) (λ rules. moved (noted (rules-from n m (c₃ .at)) rules)) steps of-atoms tf in
+                    let (rules, end, e, _, p) = was-field (λ _. m) rules-cursor rules-step of-atoms tf in
                     let at : end ≡ c₄ .at = ap (λ z. z .at) (sym p) in
-                    (rules, e ∙ ap (field rules) at, p ∙ ap (moved (noted (rules-from n m (c₃ .at)) rules)) at)
+                    (rules, e ∙ ap (field rules) at, p ∙ ap (rules-cursor rules) at)
 
-                over : (c₄ .at ≡ length s → ⊥) → Refused 6 (c₄ .at) ≡ answer s (sections s)
+                over : (c₄ .at ≡ length s → ⊥) → Refused 6 (c₄ .at) ≡ answer
+                unfolding sections
                 over h =
-                    let (names, e, _) = named in
-                    let (rules, r, _) = all in
-                    sym (ap (answer s) (more s n (c₁ .at) (counted .0) names (c₂ .at) e m (c₃ .at) (rule-count .0) rules (c₄ .at) r h))
+                    let (_, names, _) = named in
+                    let (_, rules, _) = all in
+                    rw (counted .0, names, rule-count .0, rules, ne-eqb (c₄ .at) (length s) h)
 
-                accepted : c₄ .at ≡ length s → Got m c₄ ≡ answer s (sections s)
+                accepted : c₄ .at ≡ length s → Got m c₄ ≡ answer
+                unfolding sections
                 accepted h =
-                    let (names, e, _) = named in
-                    let (rules, r, p) = all in
-                    ap (Got m) p ∙ whole s n (c₁ .at) (counted .0) names (c₂ .at) e m (c₃ .at) (rule-count .0) rules (c₄ .at) r h
+                    let (_, names, _) = named in
+                    let (_, rules, p) = all in
+                    let ln = times-length (nameAt s) n (c₁ .at) names in
+                    let lm = times-length (λ _. ruleAt s n) m (c₃ .at) rules in
+                    ap (Got m) p ∙ rw (counted .0, names, rule-count .0, rules, eq-eqb (c₄ .at) (length s) h, ln, lm)
 
 count-requires : tie.Need-count-requires
 count-requires c κs = search needs
@@ -174,7 +159,8 @@ enum-told-2 c = search needs
 returns-2 : tie.Need-returns-2
 returns-2 c =
     let a = c .before .before .before .before in
-    stop-2 (a .before .before .before .before .args .s .now) (a .before .before .count .ensures) (a .a .given .1) (c .before .before .names .ensures) (c .enum-told2 .given .1)
+    stop-2 (a .before .before .before .before .args .s .now) (a .before .before .count .ensures) (a .a .given .1)
+    (c .before .before .names .ensures) (c .enum-told2 .given .1)
 
 count-requires-2 : tie.Need-count-requires-2
 count-requires-2 c κs = search needs
@@ -189,14 +175,18 @@ returns-3 : tie.Need-returns-3
 returns-3 c =
     let b = c .before .before .before .before in
     let a = b .before .before .before .before in
-    stop-3 (a .before .before .before .before .args .s .now) (a .before .before .count .ensures) (a .a .given .1) (b .before .before .names .ensures) (b .b .given .1) (c .before .before .count2 .ensures) (c .enum-told3 .given .1)
+    stop-3 (a .before .before .before .before .args .s .now) (a .before .before .count .ensures) (a .a .given .1)
+    (b .before .before .names .ensures) (b .b .given .1)
+    (c .before .before .count2 .ensures) (c .enum-told3 .given .1)
 
 rules-requires : tie.Need-rules-requires
 rules-requires c κs =
     let n = c .before in
     let b = n .before .before .before .before in
     let a = b .before .before .before .before in
-    few (a .before .before .before .before .args .s .now) (a .before .before .count .ensures) (a .a .given .1) (b .before .before .names .ensures) (b .b .given .1) (n .before .before .count2 .ensures) (n .c .given .1)
+    few (a .before .before .before .before .args .s .now) (a .before .before .count .ensures) (a .a .given .1)
+    (b .before .before .names .ensures) (b .b .given .1)
+    (n .before .before .count2 .ensures) (n .c .given .1)
 
 enum-known-d : tie.Need-enum-known-d
 enum-known-d c = search needs
@@ -209,7 +199,10 @@ returns-4 c =
     let n = c .before .before .before .before in
     let b = n .before .before .before .before in
     let a = b .before .before .before .before in
-    stop-4 (a .before .before .before .before .args .s .now) (a .before .before .count .ensures) (a .a .given .1) (b .before .before .names .ensures) (b .b .given .1) (n .before .before .count2 .ensures) (n .c .given .1) (c .before .before .rules .ensures) (c .enum-told4 .given .1)
+    stop-4 (a .before .before .before .before .args .s .now) (a .before .before .count .ensures) (a .a .given .1)
+    (b .before .before .names .ensures) (b .b .given .1)
+    (n .before .before .count2 .ensures) (n .c .given .1)
+    (c .before .before .rules .ensures) (c .enum-told4 .given .1)
 
 returns-5 : tie.Need-returns-5
 returns-5 c =
@@ -217,7 +210,9 @@ returns-5 c =
     let n = r .before .before .before .before in
     let b = n .before .before .before .before in
     let a = b .before .before .before .before in
-    accepted (a .before .before .before .before .args .s .now) (a .before .before .count .ensures) (a .a .given .1) (b .before .before .names .ensures) (b .b .given .1) (n .before .before .count2 .ensures) (n .c .given .1)
+    accepted (a .before .before .before .before .args .s .now) (a .before .before .count .ensures) (a .a .given .1)
+    (b .before .before .names .ensures) (b .b .given .1)
+    (n .before .before .count2 .ensures) (n .c .given .1)
     (r .before .before .rules .ensures) (r .d .given .1) (c .if1 .taken)
 
 returns-6 : tie.Need-returns-6
@@ -226,7 +221,9 @@ returns-6 c =
     let n = r .before .before .before .before in
     let b = n .before .before .before .before in
     let a = b .before .before .before .before in
-    over (a .before .before .before .before .args .s .now) (a .before .before .count .ensures) (a .a .given .1) (b .before .before .names .ensures) (b .b .given .1) (n .before .before .count2 .ensures) (n .c .given .1)
+    over (a .before .before .before .before .args .s .now) (a .before .before .count .ensures) (a .a .given .1)
+    (b .before .before .names .ensures) (b .b .given .1)
+    (n .before .before .count2 .ensures) (n .c .given .1)
     (r .before .before .rules .ensures) (r .d .given .1) (c .if1 .left)
 
 pub sections-spec : {M : Type 1} → statement M
