@@ -51,7 +51,10 @@ mul-m : tie.Need-mul-m
 mul-m c = let a = c .before .before .before .before .before .args in omega (arith, c .shared-slice-known4 .given (place (a .cases .now) (a .at) + 1))
 
 add-m-2 : tie.Need-add-m-2
-add-m-2 c = let a = c .before .before .before .before .before .args in omega (arith, c .shared-slice-known4 .given (place (a .cases .now) (a .at)), c .shared-slice-known4 .given (place (a .cases .now) (a .at) + 1))
+add-m-2 c =
+    let a = c .before .before .before .before .before .args in
+    let p = place (a .cases .now) (a .at) in
+    omega (arith, c .shared-slice-known4 .given p, c .shared-slice-known4 .given (p + 1))
 
 add-sheet : tie.Need-add-sheet
 add-sheet c = search needs

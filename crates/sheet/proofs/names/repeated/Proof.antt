@@ -75,7 +75,8 @@ returns : tie.Need-returns Inv-loop μ-loop
 returns c =
     let a = c .before .before .before .before .before .args in
     let l = c .before .before .before .loop in
-    sym (start (a .s .now) (a .n) (a .q) (a .from) ∙ (l .inv .2 ∙ is-it (a .s .now) (a .n) (a .q) (l .i) (l .p) (c .before .before .loop-test .taken) (sym (c .before .same-name .ensures) ∙ c .if1 .taken)))
+    sym (start (a .s .now) (a .n) (a .q) (a .from) ∙ (l .inv .2 ∙ is-it (a .s .now) (a .n) (a .q) (l .i) (l .p)
+    (c .before .before .loop-test .taken) (sym (c .before .same-name .ensures) ∙ c .if1 .taken)))
 
 add-p : tie.Need-add-p Inv-loop μ-loop
 add-p c =

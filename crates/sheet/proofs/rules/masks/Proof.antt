@@ -102,7 +102,8 @@ returns : tie.Need-returns Inv-loop μ-loop
 returns c =
     let a = c .before .before .before .before .before .before .args in
     let l = c .before .before .before .before .loop in
-    refuses (loop (a .s .now) (a .first)) (l .inv) (c .before .before .before .loop-test .taken) (same (a .s .now) (a .first) (l .inv)) (c .before .before .mask .ensures) (c .enum-told .given .1)
+    refuses (loop (a .s .now) (a .first)) (l .inv) (c .before .before .before .loop-test .taken) (same (a .s .now) (a .first) (l .inv))
+    (c .before .before .mask .ensures) (c .enum-told .given .1)
 
 add-i : tie.Need-add-i Inv-loop μ-loop
 add-i c = omega arith
@@ -114,7 +115,8 @@ loop-again : tie.Need-loop-again Inv-loop μ-loop
 loop-again c =
     let a = c .before .before .before .before .before .before .before .args in
     let l = c .before .before .before .before .before .loop in
-    turned (loop (a .s .now) (a .first)) (l .inv) (c .before .before .before .before .loop-test .taken) (same (a .s .now) (a .first) (l .inv)) (c .before .before .before .mask .ensures) (c .before .f .given .1)
+    turned (loop (a .s .now) (a .first)) (l .inv) (c .before .before .before .before .loop-test .taken) (same (a .s .now) (a .first) (l .inv))
+    (c .before .before .before .mask .ensures) (c .before .f .given .1)
 
 returns-2 : tie.Need-returns-2 Inv-loop μ-loop
 returns-2 c = let a = c .before .before .before .args in finished (loop (a .s .now) (a .first)) (c .before .loop .inv) (c .loop-test .left)

@@ -6,7 +6,7 @@ use mathlib.Core.List.{List, []}
 use mathlib.Core.Path.{_≡_, sym, ap, _∙_}
 use native.Mathlib.Omega.{arith}
 use Prim.Native.Nat.{ℕ, _≤_}
-use Rattle.semantics.specs.Definitions.Reading.{Reading, field, refused, times}
+use Rattle.semantics.specs.Definitions.Reading.{Reading, field, times}
 use Rattle.semantics.specs.Definitions.Sheet.{countAt, nameAt, ruleAt, sections}
 use Rattle.semantics.specs.Theorems.Reading.{times-length}
 use Rattle.semantics.specs.Theorems.Fields.{count-field}
