@@ -35,6 +35,10 @@ module _ {A : Type 0} (number : A → ℕ) (cursor : A → ℕ → Cursor) (r : 
           let b : q ≡ p = cc in
           rw (a, b)
 
+-- what is left of n turns after i, as a recursion takes it
+pub one-left : (n i : ℕ) → i < n → n - i ≡ suc (n - (i + 1))
+one-left n i h = omega arith
+
 -- A loop over a step: the whole reading is what is left of it after i turns. It starts so, goes on, stops at a refusal, and is done.
 module _ {A : Type 0} (step : List A → ℕ → Reading A) (n : ℕ) where
   pub starts : (at : ℕ) → times n [] step at ≡ times (n - 0) [] step at
@@ -45,9 +49,7 @@ module _ {A : Type 0} (step : List A → ℕ → Reading A) (n : ℕ) where
   module _ (i at : ℕ) (earlier : List A) {whole : Reading (List A)} (left : whole ≡ times (n - i) earlier step at) where
     turn : i < n → whole ≡ (step earlier at then λ v next. times (n - (i + 1)) (earlier ++ v ∷ []) step next)
     unfolding times
-    turn h =
-        let e : n - i ≡ suc (n - (i + 1)) = omega arith in
-        left ∙ rw e
+    turn h = left ∙ rw (one-left n i h)
 
     pub goes-on : {v : A} {next : ℕ} → i < n → step earlier at ≡ field v next → whole ≡ times (n - (i + 1)) (earlier ++ v ∷ []) step next
     goes-on h e = turn h ∙ rw e

@@ -6,7 +6,7 @@ use Rattle.sets.specs.Lists.{flat}
 use Rattle.semantics.specs.Definitions.Check.{Numbers}
 use Rattle.semantics.specs.Definitions.Listing.{View, Tally}
 
--- ---- bytes
+-- ---- bytes, spelled out here and not by the layout of Theorems/Layout.antt
 -- n zero bytes
 unfoldable pub zeros : ℕ → List ℕ
 zeros zero = []

@@ -6,6 +6,7 @@ use native.Mathlib.Omega.{arith}
 use Prim.Native.Nat.{ℕ, zero, suc, _+_, _-_, _≤_, _<_}
 use Rattle.sets.specs.Lists.{some, sameList}
 use Rattle.semantics.specs.Fields.{nameFrom, afterName, namesFrom, afterNames}
+use Rattle.sheet.proofs.Laws.{one-left}
 use Rattle.sheet.proofs.names.repeated.Statement.{statement}
 use Rattle.sheet.proofs.names.repeated.Tie as tie
 
@@ -22,24 +23,18 @@ found s n q i p = some (sameList (nameFrom s q)) (namesFrom s (n - i) p)
 module _ (s : List ℕ) (n q i p : ℕ) where
   ends : i < n → afterNames s (n - i) p ≡ afterNames s (n - (i + 1)) (afterName s p)
   unfolding afterNames
-  ends h =
-      let e : n - i ≡ suc (n - (i + 1)) = omega arith in
-      rw e
+  ends h = rw (one-left n i h)
 
   within : i < n → afterNames s (n - i) p ≤ q → afterName s p ≤ q
   within h l = omega (arith, ends h, no-earlier s (n - (i + 1)) (afterName s p))
 
   is-it : i < n → sameList (nameFrom s q) (nameFrom s p) ≡ true → found s n q i p ≡ true
   unfolding namesFrom some
-  is-it h t =
-      let e : n - i ≡ suc (n - (i + 1)) = omega arith in
-      rw e (rw t)
+  is-it h t = rw (one-left n i h) (rw t)
 
   is-not : i < n → sameList (nameFrom s q) (nameFrom s p) ≡ false → found s n q i p ≡ found s n q (i + 1) (afterName s p)
   unfolding namesFrom some
-  is-not h t =
-      let e : n - i ≡ suc (n - (i + 1)) = omega arith in
-      rw e (rw t)
+  is-not h t = rw (one-left n i h) (rw t)
 
   is-none : n ≤ i → found s n q i p ≡ false
   unfolding namesFrom some
