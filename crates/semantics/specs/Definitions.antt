@@ -1,13 +1,15 @@
--- In the order of document 01; Check, which needs k, stands after Setting.
+-- In the order of document 01; Returned and Check, which needs k, stand after Setting, and Calls after Verdict.
 pub mod Rules
 pub mod Reading
 pub mod Sheet
 pub mod Guesses
 pub mod Reduct
 pub mod Setting
+pub mod Returned
 pub mod Check
 pub mod Stable
 pub mod Verdict
+pub mod Calls
 pub mod Propagation
 pub mod Order
 pub mod Listing

@@ -2,4 +2,5 @@
 pub mod Sheets
 pub mod Own
 pub mod Limits
+pub mod Guesses
 pub mod Computed

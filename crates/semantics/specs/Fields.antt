@@ -1,4 +1,4 @@
--- Where the fields of a sheet lie in its bytes, as a reader goes over them. The definitions do not rest on this; contracts of the reader do.
+-- Where the fields of a sheet lie in its bytes, as a reader goes over them. The definitions do not rest on this; contracts of the code do.
 use Prim.Native.Nat.{ℕ, zero, suc, _+_, _*_}
 use mathlib.Core.List.{List, [], _∷_, map}
 use lib.ListN.{getD, take, drop}

@@ -1,8 +1,10 @@
 -- What document 01 means. Definitions: what a reader must believe, in the document's order. Theorems: the papers' reading of them.
--- Walk: the listing as it is to be run; Fields: where a reader finds the fields of a sheet. The definitions do not rest on these two.
+-- Walk: the listing as it is to be run; Fields: where a reader finds the fields of a sheet; Words: a program in words. The definitions do
+-- not rest on these three.
 -- Examples: sheets with known lists, computed.
 pub mod Definitions
 pub mod Walk
 pub mod Fields
+pub mod Words
 pub mod Theorems
 pub mod Examples

@@ -1,5 +1,5 @@
--- The papers' reading of the definitions. Those before Negations are about the bytes of a sheet, Negations, Subjects, Reduct and ModalReduct
--- about its rules, the others about any setting.
+-- The papers' reading of the definitions. Those before Negations and Calls are about the bytes of a sheet, Negations, Subjects, Reduct and
+-- ModalReduct about its rules, the others about any setting.
 pub mod Reading
 pub mod Fields
 pub mod Names
@@ -9,12 +9,14 @@ pub mod Layout
 pub mod Bytes
 pub mod Fitting
 pub mod Exact
+pub mod Returned
 pub mod Check
 pub mod Negations
 pub mod Subjects
 pub mod Reduct
 pub mod Stable
 pub mod Verdict
+pub mod Calls
 pub mod Closure
 pub mod Apart
 pub mod Contradicted

@@ -1,6 +1,6 @@
 -- Tests and the questions that they decide. Assumes nothing.
 use Prim.Native.Nat.{ℕ, _≤_}
-use mathlib.Core.Path.{_≡_, refl, sym}
+use mathlib.Core.Path.{_≡_, refl, sym, _∙_}
 use mathlib.Core.Bool.{Bool, true, false, not, _&&_, _||_, cond, true≢false}
 use mathlib.Core.Logic.{_↔_, _⊎_, inl, inr, ⊎-elim}
 use native.Mathlib.Omega.{arith}
@@ -63,6 +63,9 @@ dec-if {a = true} d e f = dec-iff (λ q. inl (d .yes refl, q), ⊎-elim (λ p. p
 dec-if {a = false} d e f = dec-iff (λ r. inr (d .no refl, r), ⊎-elim (λ p. absurd (d .no refl (p .0))) (λ p. p .1)) f
 
 -- ---- first answers
+pub dec-self : (b : Bool) → Decides (b ≡ true) b
+dec-self b = record { yes = λ e. e; no = λ e f. true≢false (sym f ∙ e) }
+
 pub dec-eq : (a b : ℕ) → Decides (a ≡ b) (eqb a b)
 dec-eq a b = record { yes = eqb-true a b; no = eqb-false a b }
 

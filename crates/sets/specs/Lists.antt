@@ -9,7 +9,7 @@ use native.Mathlib.Nat.{eq-or-lt-of-le, le-of-suc-le-suc, not-suc-le-zero}
 use lib.Dec.{eqb}
 use lib.ListN.{length, getD, length-append, length-map, List·getD-append}
 use lib.Seq.{getD-at}
-use Rattle.sets.specs.Decides.{is-true, Decides, dec-true, dec-false, dec-iff, dec-and, dec-or, dec-eq}
+use Rattle.sets.specs.Decides.{is-true, Decides, dec-true, dec-false, dec-self, dec-iff, dec-and, dec-or, dec-eq}
 
 infix 45 _among_
 -- x stands in the list l
@@ -98,6 +98,11 @@ module _ {A : Type 0} where
     all-getD (x ∷ l) d f p zero = f x here
     all-getD (x ∷ l) d f p (suc i) = all-getD l d (λ y m. f y (later m)) p i
 
+  pub getD-among : (l : List A) (d : A) (i : ℕ) → i < length l → getD l i d among l
+  getD-among [] d i h = absurd (not-suc-le-zero h)
+  getD-among (x ∷ l) d zero h = here
+  getD-among (x ∷ l) d (suc i) h = later (getD-among l d i (le-of-suc-le-suc h))
+
   pub among-only : (b : Bool) {x y : A} → x among only b y ↔ ((b ≡ true) × (x ≡ y))
   among-only true = (λ m. (refl, List·Memᴰ·eq-of-singleton m), λ p. List·Memᴰ·head (p .1))
   among-only false {x} {y} = ((λ m. absurd (nowhere m)), λ p. absurd (true≢false (sym (p .0))))
@@ -157,16 +162,27 @@ module _ {A : Type 0} where
   some-same f h [] e = refl
   some-same f h (x ∷ l) e = ap₂ _||_ (e x here) (some-same f h l (λ y m. e y (later m)))
 
-  pub map-keep-same : {B : Type 0} (p q : A → Bool) (f h : A → B) (l : List A) → ((x : A) → x among l → (p x ≡ q x) × (f x ≡ h x)) → map f (keep p l) ≡ map h (keep q l)
+  -- two ways to keep members and to make something of them that agree, the first after c
+  pub map-keep-map : {B C : Type 0} (p : B → Bool) (q : A → Bool) (f : B → C) (h : A → C) (c : A → B) (l : List A)
+      → ((x : A) → x among l → (p (c x) ≡ q x) × (q x ≡ true → f (c x) ≡ h x)) → map f (keep p (map c l)) ≡ map h (keep q l)
   unfolding keep
-  map-keep-same p q f h [] e = refl
-  map-keep-same p q f h (x ∷ l) e = go (p x) (q x) (e x here .0) (map-keep-same p q f h l (λ y m. e y (later m)))
+  map-keep-map p q f h c [] e = refl
+  map-keep-map p q f h c (x ∷ l) e = go (p (c x)) (q x) (e x here .0) (e x here .1) (map-keep-map p q f h c l (λ y m. e y (later m)))
     where
-      go : (a b : Bool) → a ≡ b → map f (keep p l) ≡ map h (keep q l) → map f (cond a (x ∷ keep p l) (keep p l)) ≡ map h (cond b (x ∷ keep q l) (keep q l))
-      go true true z ih = ap₂ _∷_ (e x here .1) ih
-      go true false z ih = absurd (true≢false z)
-      go false true z ih = absurd (true≢false (sym z))
-      go false false z ih = ih
+      go : (a b : Bool) → a ≡ b → (b ≡ true → f (c x) ≡ h x) → map f (keep p (map c l)) ≡ map h (keep q l)
+          → map f (cond a (c x ∷ keep p (map c l)) (keep p (map c l))) ≡ map h (cond b (x ∷ keep q l) (keep q l))
+      go true true z same ih = ap₂ _∷_ (same refl) ih
+      go true false z same ih = absurd (true≢false z)
+      go false true z same ih = absurd (true≢false (sym z))
+      go false false z same ih = ih
+
+  map-self : (l : List A) → map (λ x. x) l ≡ l
+  map-self [] = refl
+  map-self (x ∷ l) = ap (λ m. x ∷ m) (map-self l)
+
+  pub map-keep-same : {B : Type 0} (p q : A → Bool) (f h : A → B) (l : List A) → ((x : A) → x among l → (p x ≡ q x) × (f x ≡ h x)) → map f (keep p l) ≡ map h (keep q l)
+  map-keep-same p q f h l e =
+      ap (λ m. map f (keep p m)) (sym (map-self l)) ∙ map-keep-map p q f h (λ x. x) l (λ x m. (e x m .0, λ _. e x m .1))
 
   pub no-members : (l : List A) → (l ≡ []) ↔ ((x : A) → x among l → ⊥)
   no-members [] = ((λ _ x m. nowhere m), λ _. refl)
@@ -231,6 +247,27 @@ getD-upTo f d (suc n) i h =
     (λ e. getD-at (map f (upTo n)) (f n) [] d i (l ∙ sym e) ∙ ap f (sym e))
     (λ m. List·getD-append (map f (upTo n)) (f n ∷ []) d i (omega arith) ∙ getD-upTo f d n i m)
     (eq-or-lt-of-le (le-of-suc-le-suc h)))
+
+-- a list that f gives, number by number
+module _ {A : Type 0} (f : ℕ → A) where
+  pub map-upTo-suc : (n : ℕ) → map f (upTo (suc n)) ≡ map f (upTo n) ++ f n ∷ []
+  unfolding upTo
+  map-upTo-suc n = map-append f (upTo n) (n ∷ [])
+
+  pub map-upTo-same : (h : ℕ → A) (n : ℕ) → ((k : ℕ) → k < n → f k ≡ h k) → map f (upTo n) ≡ map h (upTo n)
+  map-upTo-same h n e = go (upTo n) (λ k m. e k (among-upTo n .0 m))
+    where
+      go : (l : List ℕ) → ((k : ℕ) → k among l → f k ≡ h k) → map f l ≡ map h l
+      go [] d = refl
+      go (k ∷ l) d = ap₂ _∷_ (d k here) (go l (λ j m. d j (later m)))
+
+  -- "for every number below n"
+  pub dec-each : (t : A → Bool) (n : ℕ) → Decides ((k : ℕ) → k < n → t (f k) ≡ true) (every t (map f (upTo n)))
+  dec-each t n =
+      dec-iff (
+        λ p k h. p (f k) (among-map f (upTo n) .1 (k, among-upTo n .1 h, refl)),
+        λ p x m. let (k, j, e) = among-map f (upTo n) .0 m in ap t e ∙ p k (among-upTo n .0 j),
+      ) (dec-every t (λ x. t x ≡ true) (map f (upTo n)) (λ x _. dec-self (t x)))
 
 pub among-downFrom : {x : ℕ} (n : ℕ) → x among downFrom n ↔ (x < n)
 unfolding downFrom

@@ -1,18 +1,18 @@
 -- The members of each set that is made of others, and what the tests decide. Here the laws of bits end. Assumes nothing.
-use Prim.Native.Nat.{ℕ, zero, suc, _+_, _-_, _/_, _%_, _^_, _≤_, _<_, min, max}
-use mathlib.Core.Path.{_≡_, refl, sym, ap, _∙_, subst}
+use Prim.Native.Nat.{ℕ, zero, suc, _+_, _-_, _*_, _/_, _%_, _^_, _≤_, _<_, min, max}
+use mathlib.Core.Path.{_≡_, refl, sym, ap, ap₂, _∙_, subst}
 use mathlib.Core.Bool.{Bool, true, false, cond, true≢false}
 use mathlib.Core.List.{List, [], _∷_, foldl}
 use mathlib.Core.Logic.{_↔_, _⊎_, inl, inr, ⊎-elim}
 use native.Mathlib.Omega.{arith}
 use native.Mathlib.Nat.{zero-div, div-eq-of-lt, eq-zero-or-pos, one-mul, pow-suc, eq-or-lt-of-le, le-of-suc-le-suc, not-suc-le-zero, lt-of-lt-of-le, lt-of-not-le}
 use lib.Arith.{bin-ind}
-use lib.Bits.{and-step, and-shr, or-step, or-shr, and-le-r, or-shifted}
+use lib.Bits.{and-step, and-shr, or-step, or-shr, and-le-l, and-le-r, or-zero-l, or-shifted}
 use lib.ListN.{getD}
 use lib.Pow.{shr-shr, shl-shr, pow-add, pow-mono, pow-lt, pow-pos}
-use Rattle.sets.specs.Decides.{is-true, Decides, decided, dec-iff, dec-not, dec-and, dec-eq}
+use Rattle.sets.specs.Decides.{is-true, Decides, decided, dec-iff, dec-not, dec-and, dec-eq, dec-le}
 use Rattle.sets.specs.Lists.{_among_, here, later, nowhere, first-or-later, all-cons, all-getD}
-use Rattle.sets.specs.Sets.{_∈_, _⊆_, _⊂_, Meets, Below, _∈?_, _⊆?_, _⊂?_, _meets?_, _∩_, _∪_, ∅, full, single, setOf, ⋂, ⋃}
+use Rattle.sets.specs.Sets.{_∈_, _⊆_, _⊂_, Meets, Below, _∈?_, _⊆?_, _⊂?_, _meets?_, _∩_, _∪_, _∖_, ∅, full, single, setOf, ⋂, ⋃}
 
 -- ---- a member, by its bit
 pub dec-∈ : (a x : ℕ) → Decides (a ∈ x) (a ∈? x)
@@ -70,6 +70,37 @@ module _ (a x y : ℕ) where
     ⊎-elim (λ m. record { bit = omega (arith, digit-∪) }) (λ m. record { bit = omega (arith, digit-∪) }),
   )
 
+pub ∅-∪ : (x : ℕ) → ∅ ∪ x ≡ x
+∅-∪ x = or-zero-l x
+
+-- the members of x that are not in y: the last digit of their number, and the others
+minus-step : (x y : ℕ) → ((x ∖ y) % 2 ≡ x % 2 - y % 2) × ((x ∖ y) / 2 ≡ (x / 2) ∖ (y / 2))
+minus-step x y = go (x ∩ y) ((x / 2) ∩ (y / 2)) (decided (dec-eq (x % 2) 1)) (decided (dec-eq (y % 2) 1)) (and-step x y) (and-le-l (x / 2) (y / 2))
+  where
+    go : (b c : ℕ) → (x % 2 ≡ 1) ⊎ (x % 2 ≡ 1 → ⊥) → (y % 2 ≡ 1) ⊎ (y % 2 ≡ 1 → ⊥) → b ≡ c * 2 + min (x % 2) (y % 2) → c ≤ x / 2
+        → ((x - b) % 2 ≡ x % 2 - y % 2) × ((x - b) / 2 ≡ x / 2 - c)
+    go b c (inl p) (inl q) e l = (omega arith, omega arith)
+    go b c (inl p) (inr q) e l = (omega arith, omega arith)
+    go b c (inr p) (inl q) e l = (omega arith, omega arith)
+    go b c (inr p) (inr q) e l = (omega arith, omega arith)
+
+digit-∖ : (a x y : ℕ) → (x ∖ y) / 2 ^ a % 2 ≡ x / 2 ^ a % 2 - y / 2 ^ a % 2
+digit-∖ zero x y = ap (λ z. z % 2) (whole (x ∖ y)) ∙ minus-step x y .0 ∙ ap₂ (λ u v. u % 2 - v % 2) (sym (whole x)) (sym (whole y))
+  where
+    whole : (z : ℕ) → z / 2 ^ 0 ≡ z
+    whole z = omega arith
+digit-∖ (suc a) x y =
+    shifted (x ∖ y) ∙ ap (λ z. z / 2 ^ a % 2) (minus-step x y .1) ∙ digit-∖ a (x / 2) (y / 2) ∙ ap₂ _-_ (sym (shifted x)) (sym (shifted y))
+  where
+    shifted : (z : ℕ) → z / 2 ^ suc a % 2 ≡ z / 2 / 2 ^ a % 2
+    shifted z = ap (λ w. z / 2 ^ w % 2) (omega arith) ∙ ap (λ w. w % 2) (sym (shr-shr z 1 a))
+
+pub ∈-∖ : (a x y : ℕ) → a ∈ x ∖ y ↔ ((a ∈ x) × (a ∈ y → ⊥))
+∈-∖ a x y = (
+  λ m. (record { bit = omega (arith, m .bit, digit-∖ a x y) }, λ n. omega (arith, m .bit, n .bit, digit-∖ a x y)),
+  λ p. record { bit = let n : y / 2 ^ a % 2 ≡ 1 → ⊥ = λ e. p .1 (record { bit = e }) in omega (arith, p .0 .bit, digit-∖ a x y) },
+)
+
 -- ---- subsets
 pub ⊆-refl : {x : ℕ} → x ⊆ x
 ⊆-refl = record { into = λ m. m }
@@ -103,6 +134,32 @@ pub ⊂-⊆-trans : {x y z : ℕ} → x ⊂ y → y ⊆ z → x ⊂ z
   within = ⊆-trans (s .within) t;
   differ = λ e. s .differ (⊆-antisym (s .within) (subst (λ w. y ⊆ w) (sym e) t));
 }
+
+pub ∩-⊆ : (x y : ℕ) → x ∩ y ⊆ y
+∩-⊆ x y = record { into = λ {a} m. ∈-∩ a x y .0 m .1 }
+
+-- the subsets of y by falling number: below s, a subset, the next is (s - 1) ∩ y
+next-subset : (s y t : ℕ) → s ∩ y ≡ s → t ∩ y ≡ t → t < s → t ≤ (s - 1) ∩ y
+next-subset = bin-ind (λ s. (y t : ℕ) → s ∩ y ≡ s → t ∩ y ≡ t → t < s → t ≤ (s - 1) ∩ y) (λ y t p q l. absurd (omega arith)) step
+  where
+    step : (s : ℕ) → ((y t : ℕ) → s / 2 ∩ y ≡ s / 2 → t ∩ y ≡ t → t < s / 2 → t ≤ (s / 2 - 1) ∩ y)
+        → (y t : ℕ) → s ∩ y ≡ s → t ∩ y ≡ t → t < s → t ≤ (s - 1) ∩ y
+    step s ih y t p q l =
+        ⊎-elim (λ e.
+        let half : (s - 1) / 2 ≡ s / 2 = omega arith in
+        omega (arith, and-step s y, and-step (s - 1) y, ap (λ (x : ℕ). x ∩ (y / 2)) half))
+        (λ n.
+        let half : (s - 1) / 2 ≡ s / 2 - 1 = omega arith in
+        let r : t / 2 ≤ (s / 2 - 1) ∩ (y / 2) = ih (y / 2) (t / 2) (omega (arith, and-step s y)) (omega (arith, and-step t y)) (omega arith) in
+        omega (arith, and-step t y, and-step (s - 1) y, ap (λ (x : ℕ). x ∩ (y / 2)) half))
+        (decided (dec-eq (s % 2) 1))
+
+pub none-between : {s t y : ℕ} → s ⊆ y → t ⊆ y → (s - 1) ∩ y ≤ t → (t ≡ (s - 1) ∩ y) ⊎ (s ≤ t)
+none-between {s} {t} {y} p q l =
+    ⊎-elim inr (λ n. inl (omega (arith, next-subset s y t (⊆-∩ p) (⊆-∩ q) (lt-of-not-le n)))) (decided (dec-le s t))
+
+pub next-less : (s y : ℕ) → 0 < s → (s - 1) ∩ y < s
+next-less s y l = omega (arith, and-le-l (s - 1) y)
 
 -- ---- sets that meet
 pub dec-meets : (x y : ℕ) → Decides (Meets x y) (x meets? y)
@@ -142,7 +199,7 @@ module _ (f : ℕ → Bool) where
       go true l = omega (arith, pow-suc 2 n)
       go false l = omega (arith, pow-suc 2 n)
 
-  setOf-suc : (n : ℕ) → setOf f (suc n) ≡ cond (f n) (single n) ∅ ∪ setOf f n
+  pub setOf-suc : (n : ℕ) → setOf f (suc n) ≡ cond (f n) (single n) ∅ ∪ setOf f n
   unfolding setOf
   setOf-suc n = go (f n)
     where

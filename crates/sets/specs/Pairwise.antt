@@ -1,11 +1,13 @@
 -- Relations between each member of a list and every later one: distinct members, sorted lists. Assumes nothing.
 use Prim.Native.Nat.{ℕ, zero, suc, _<_}
-use mathlib.Core.Path.{_≡_, refl, sym, ap₂, _∙_, subst}
+use mathlib.Core.Path.{_≡_, refl, sym, ap, ap₂, _∙_, subst}
 use mathlib.Core.Bool.{Bool, true, false, cond}
 use mathlib.Core.List.{List, [], _∷_, _++_, map, List·Memᴰ·eq-of-singleton}
 use mathlib.Core.Logic.{_↔_, inr, ⊎-elim}
 use native.Mathlib.Omega.{arith}
-use Rattle.sets.specs.Lists.{_among_, here, later, nowhere, first-or-later, all-cons, keep, flat, upTo, downFrom, among-append, among-keep, among-map, among-flat, among-upTo, among-downFrom}
+use native.Mathlib.Nat.{le-of-suc-le-suc, not-suc-le-zero}
+use lib.ListN.{length, getD}
+use Rattle.sets.specs.Lists.{_among_, here, later, nowhere, first-or-later, all-cons, keep, flat, upTo, downFrom, getD-among, among-append, among-keep, among-map, among-flat, among-upTo, among-downFrom}
 
 -- R holds of each member and every later one
 abbrev pub Pairwise : {A : Type 0} → (A → A → Type 0) → List A → Type 0
@@ -40,6 +42,14 @@ module _ {A : Type 0} where
   pub pairwise-suffix : (R : A → A → Type 0) (l m : List A) → Pairwise R (l ++ m) → Pairwise R m
   pairwise-suffix R [] m p = p
   pairwise-suffix R (x ∷ l) m p = pairwise-suffix R l m (p .1)
+
+  -- no two places have the same member
+  pub distinct-places : (l : List A) (d : A) → Distinct l → (i j : ℕ) → i < length l → j < length l → getD l i d ≡ getD l j d → i ≡ j
+  distinct-places [] d p i j h k e = absurd (not-suc-le-zero h)
+  distinct-places (x ∷ l) d p zero zero h k e = refl
+  distinct-places (x ∷ l) d p zero (suc j) h k e = absurd (p .0 (getD l j d) (getD-among l d j (le-of-suc-le-suc k)) e)
+  distinct-places (x ∷ l) d p (suc i) zero h k e = absurd (p .0 (getD l i d) (getD-among l d i (le-of-suc-le-suc h)) (sym e))
+  distinct-places (x ∷ l) d p (suc i) (suc j) h k e = ap suc (distinct-places l d (p .1) i j (le-of-suc-le-suc h) (le-of-suc-le-suc k) e)
 
   pub pairwise-mapped : {B : Type 0} (R : B → B → Type 0) (f : A → B) (l : List A) → Pairwise (λ x y. R (f x) (f y)) l → Pairwise R (map f l)
   pairwise-mapped R f [] p = tt

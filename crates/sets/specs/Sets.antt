@@ -10,7 +10,7 @@ use lib.Dec.{eqb}
 use Rattle.sets.specs.Lists.{_among_}
 
 infix 45 _∈_ _⊆_ _⊂_ _∈?_ _⊆?_ _⊂?_ _meets?_
-infixl 66 _∩_
+infixl 66 _∩_ _∖_
 infixl 65 _∪_
 -- ---- what is meant
 
@@ -59,6 +59,10 @@ x ∩ y = bitAnd x y
 
 abbrev pub _∪_ : ℕ → ℕ → ℕ
 x ∪ y = bitOr x y
+
+-- the members of x that are not in y (those in both are part of x's number)
+abbrev pub _∖_ : ℕ → ℕ → ℕ
+x ∖ y = x - x ∩ y
 
 abbrev pub ∅ : ℕ
 ∅ = 0

@@ -1,8 +1,9 @@
 // A 16-bit word as a set of the numbers 0 to 15: atoms, or epistemic negations. Each contract is in terms of sets; what the tests
 // decide is in specs/Members.antt and specs/Size.antt.
 ghost use mathlib.Core.Path.{_≡_};
+ghost use mathlib.Core.Bool.{cond};
 ghost use Prim.Native.Nat.{_^_, _<_};
-ghost use Rattle.sets.specs.Sets.{_∈?_, _⊆?_, _⊂?_, _meets?_, size as sizeOf};
+ghost use Rattle.sets.specs.Sets.{_∈?_, _⊆?_, _⊂?_, _meets?_, _∪_, _∖_, ∅, single, size as sizeOf};
 
 // Is a in the set x?
 pub fn member(a: u16, x: u16) -> bool
@@ -33,6 +34,24 @@ pub fn meets(x: u16, y: u16) -> bool
     ensures { λ r. ⌜ r ≡ (x meets? y) ⌝ }
 {
     x & y != 0
+}
+
+// The members of x that are not in y.
+pub fn minus(x: u16, y: u16) -> u16
+    ensures { λ r. ⌜ r ≡ x ∖ y ⌝ }
+{
+    x - (x & y)
+}
+
+// x, and a too where `yes`.
+pub fn include(x: u16, a: u16, yes: bool) -> u16
+    requires { ⌜ a < 16 ⌝ }
+    ensures { λ r. ⌜ r ≡ cond yes (single a) ∅ ∪ x ⌝ }
+{
+    if yes {
+        return power(a) | x;
+    }
+    x
 }
 
 // How many members x has.

@@ -1,11 +1,11 @@
 -- A rule fetched by number: "a number not below the rule count yields "no rule"". Assumes nothing.
 use Prim.Native.Nat.{ℕ, _+_, _*_, _-_, _/_, _≤_, _<_}
-use mathlib.Core.Bool.{cond}
-use mathlib.Core.Path.{_≡_}
+use mathlib.Core.Bool.{Bool, true, false, cond}
+use mathlib.Core.Path.{_≡_, refl}
 use mathlib.Core.List.{List, []}
 use native.Mathlib.Nat.{mul-div-right}
 use native.Mathlib.Omega.{arith}
-use borrow.Author.Tests.{lt-ltb, le-ltb}
+use borrow.Author.Tests.{ltb-true, ltb-false, lt-ltb, le-ltb}
 use lib.Dec.{ltb}
 use lib.ListN.{length, getD}
 use Rattle.semantics.specs.Definitions.Reading.{field}
@@ -23,6 +23,26 @@ ruleCount s rulesAt = (length s - rulesAt) / 16
 -- the rule of a number, by its place
 abbrev pub fetched : List ℕ → (rulesAt number : ℕ) → Fetched
 fetched s rulesAt number = cond (ltb number (ruleCount s rulesAt)) (Rule (rulesAt + 16 * number)) NoRule
+
+-- what the answer says
+module _ (s : List ℕ) (from number : ℕ) where
+  pub fetched-place : {place : ℕ} → fetched s from number ≡ Rule place → (number < ruleCount s from) × (place ≡ from + 16 * number) × (place + 16 ≤ length s)
+  fetched-place {place} e = go (ltb number (ruleCount s from)) (ltb-true number (ruleCount s from)) e
+    where
+      go : (b : Bool) → (b ≡ true → number < ruleCount s from) → cond b (Rule (from + 16 * number)) NoRule ≡ Rule place
+          → (number < ruleCount s from) × (place ≡ from + 16 * number) × (place + 16 ≤ length s)
+      go true f z =
+          let h = f refl in
+          let e : place ≡ from + 16 * number = cc in
+          (h, e, omega arith)
+      go false f z = let q : _≡_ {A = ℕ} 0 1 = cc in absurd (omega arith)
+
+  pub fetched-all : fetched s from number ≡ NoRule → ruleCount s from ≤ number
+  fetched-all e = go (ltb number (ruleCount s from)) (ltb-false number (ruleCount s from)) e
+    where
+      go : (b : Bool) → (b ≡ false → ruleCount s from ≤ number) → cond b (Rule (from + 16 * number)) NoRule ≡ NoRule → ruleCount s from ≤ number
+      go true f z = let q : _≡_ {A = ℕ} 0 1 = cc in absurd (omega arith)
+      go false f z = f refl
 
 -- of an accepted sheet
 module _ (s : List ℕ) (x : Sheet) (end : ℕ) (e : opened s ≡ field x end) (i : ℕ) where

@@ -9,12 +9,12 @@ ghost use mathlib.Core.List.{[], _∷_};
 ghost use Prim.Native.Nat.{_+_, _≤_};
 ghost use lib.ListN.{length};
 ghost use Rattle.semantics.specs.Definitions.Reading.{times};
-ghost use Rattle.semantics.specs.Definitions.Sheet.{maskAt, ruleAt};
+ghost use Rattle.semantics.specs.Definitions.Sheet.{maskAt, ruleAt, mostAtoms};
 ghost use Rattle.sheet.specs.Steps.{fieldOf, moved, noted, notedMask};
 
 // Mask i of a rule. Masks 4 and 5 have atoms under K and "not K", 6 and 7 under M and "not M".
 fn mask(s: &[u8], i: usize, c: Cursor) -> Field
-    requires { ⌜ (c .at + 2 ≤ length (now s)) × (c .atoms ≤ 15) ⌝ }
+    requires { ⌜ (c .at + 2 ≤ length (now s)) × (c .atoms ≤ mostAtoms) ⌝ }
     ensures { λ r. ⌜ r ≡ fieldOf (λ w. w) (λ w. moved (notedMask i c w)) (maskAt (now (s .entry)) (c .atoms) (c .at)) ⌝ }
 {
     let at = c.at;
@@ -40,7 +40,7 @@ fn mask(s: &[u8], i: usize, c: Cursor) -> Field
 
 // The eight masks of a rule.
 fn masks(s: &[u8], first: Cursor) -> Field
-    requires { ⌜ (first .at + 16 ≤ length (now s)) × (first .atoms ≤ 15) ⌝ }
+    requires { ⌜ (first .at + 16 ≤ length (now s)) × (first .atoms ≤ mostAtoms) ⌝ }
     ensures { λ r. ⌜ r ≡ fieldOf (λ _. 8) (λ masks. moved (noted first (masks ∷ []))) (times 8 [] (λ _. maskAt (now (s .entry)) (first .atoms)) (first .at)) ⌝ }
 {
     let mut c = first;
@@ -58,7 +58,7 @@ fn masks(s: &[u8], first: Cursor) -> Field
 
 // A rule: all its bytes are there before a mask is judged.
 fn rule(s: &[u8], c: Cursor) -> Field
-    requires { ⌜ c .atoms ≤ 15 ⌝ }
+    requires { ⌜ c .atoms ≤ mostAtoms ⌝ }
     ensures { λ r. ⌜ r ≡ fieldOf (λ _. 8) (λ masks. moved (noted c (masks ∷ []))) (ruleAt (now (s .entry)) (c .atoms) (c .at)) ⌝ }
 {
     if present(s, c.at, 16) {
@@ -69,7 +69,7 @@ fn rule(s: &[u8], c: Cursor) -> Field
 
 // All the rules.
 pub fn rules(s: &[u8], first: Cursor) -> Field
-    requires { ⌜ first .atoms ≤ 15 ⌝ }
+    requires { ⌜ first .atoms ≤ mostAtoms ⌝ }
     ensures { λ r. ⌜ r ≡ fieldOf (λ _. first .rules) (λ rules. moved (noted first rules)) (times (first .rules) [] (λ _. ruleAt (now (s .entry)) (first .atoms)) (first .at)) ⌝ }
 {
     let n = first.rules;

@@ -1,11 +1,12 @@
--- Document 01, "Turned back at the door": refusal 7. What a call answers, and what the check does.
+-- Document 01, "Turned back at the door": refusal 7, and what the check does.
 use Prim.Native.Nat.{ℕ}
 use lib.Dec.{leb}
 use lib.ListN.{length}
 use mathlib.Core.List.{List}
-use Rattle.semantics.specs.Definitions.Reading.{Reading, field, refused, _then_, require}
+use Rattle.semantics.specs.Definitions.Reading.{Reading, field, _then_, require}
 use Rattle.semantics.specs.Definitions.Sheet.{Sheet, atoms, epistemicRules, sections}
 use Rattle.semantics.specs.Definitions.Setting.{Setting, settingOf, k}
+use Rattle.semantics.specs.Definitions.Returned.{Returned, accepted, returned}
 
 -- "k of 12 passes, 13 gives 7."
 abbrev pub mostNegations : ℕ
@@ -21,17 +22,6 @@ opened s =
     sections s then λ x end.
     require (leb (k (setting x)) mostNegations) 7 0
     (field x end)
-
--- What a call returns: its values where it is accepted, or the refusal's number and place (a place in the sheet, or the other number that
--- the table "Returned" gives).
-pub data Returned (A : Type 0) : Type 0 where
-  accepted : (values : A) → Returned A
-  refusal : (number place : ℕ) → Returned A
-
--- the refusal that ended the reading, or what is returned for the sheet
-abbrev pub returned : {A : Type 0} → Reading Sheet → (Sheet → Returned A) → Returned A
-returned (field x end) of = of x
-returned (refused number place) of = refusal number place
 
 -- "The check of an accepted sheet answers with the numbers of atoms, of rules and of negations (k, below)."
 pub record Numbers : Type 0 where

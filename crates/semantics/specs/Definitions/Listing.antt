@@ -1,8 +1,8 @@
 -- Document 01, "Order and listing": world views, what each guess counts as, and the records.
 use Prim.Native.Nat.{ℕ}
 use mathlib.Core.Bool.{Bool, not, _&&_}
-use mathlib.Core.List.{List, [], _∷_, _++_, map}
-use lib.ListN.{length, drop}
+use mathlib.Core.List.{List, [], _∷_, map}
+use lib.ListN.{length}
 use Rattle.sets.specs.Lists.{some, keep, flat}
 use Rattle.sets.specs.Sets.{_⊂?_}
 use Rattle.semantics.specs.Definitions.Setting.{Setting, k, guesses}
@@ -84,7 +84,3 @@ listing s = viewsAlong s (order (k s))
 -- "each as its four words"
 abbrev pub words : List View → List ℕ
 words vs = flat (λ v. v .guess ∷ v .known ∷ v .possible ∷ v .sets ∷ []) vs
-
--- "and then what stood there before": a lent buffer after the words ws are written to its front
-abbrev pub written : List ℕ → List ℕ → List ℕ
-written ws buffer = ws ++ drop (length ws) buffer

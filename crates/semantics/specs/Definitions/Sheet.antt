@@ -33,6 +33,13 @@ between low high x = leb low x && leb x high
 abbrev pub nameByte : (first : Bool) → ℕ → Bool
 nameByte first b = between 97 122 b || not first && (between 48 57 b || eqb b 95)
 
+-- "over 15 atoms or 64 rules" is too many
+abbrev pub mostAtoms : ℕ
+mostAtoms = 15
+
+abbrev pub mostRules : ℕ
+mostRules = 64
+
 -- Below, s is the bytes of a sheet.
 module _ (s : List ℕ) where
   -- "All fields are unsigned". "A place in the sheet is the offset, from 0, of the named field's first byte."
@@ -88,9 +95,9 @@ module _ (s : List ℕ) where
   -- "bytes after the last rule"
   unfoldable pub sections : Reading Sheet
   sections =
-      countAt 15 0 then λ n at.
+      countAt mostAtoms 0 then λ n at.
       times n [] nameAt at then λ names at.
-      countAt 64 at then λ m rulesAt.
+      countAt mostRules at then λ m rulesAt.
       times m [] (λ _. ruleAt n) rulesAt then λ rules end.
       require (eqb end (length s)) 6 end
       (field (record { names = names; rules = rules; rulesAt = rulesAt }) end)

@@ -1,5 +1,5 @@
 -- Document 01, "Stable sets" (002).
-use Prim.Native.Nat.{ℕ}
+use Prim.Native.Nat.{ℕ, _^_}
 use mathlib.Core.Bool.{Bool, not, _&&_, _||_}
 use mathlib.Core.List.{List, map}
 use Rattle.sets.specs.Lists.{every, some, keep, upTo}
@@ -27,8 +27,14 @@ positive r = record { head = r .head; plain = r .plain; nots = ∅; notNots = �
 unfoldable pub reductAt : ℕ → List Rule → List Rule
 reductAt i p = map positive (keep (negationsHold i) p)
 
--- "A set I of atoms is stable when it is a subset-minimal model of" that. (A proper subset of I is a smaller number.)
+-- "The search over proper subsets of I": one of them is a model. (A proper subset of I is a smaller number.)
+unfoldable pub smallerModel : List Rule → ℕ → Bool
+smallerModel p i = some (λ j. j ⊂? i && isModel p j) (upTo i)
+
+-- "A set I of atoms is stable when it is a subset-minimal model of" that program
 unfoldable pub stable : List Rule → ℕ → Bool
-stable p i =
-    let q = reductAt i p in
-    isModel q i && not (some (λ j. j ⊂? i && isModel q j) (upTo i))
+stable p i = let q = reductAt i p in isModel q i && not (smallerModel q i)
+
+-- the stable ones of the sets of n atoms, by rising number
+unfoldable pub stableSets : ℕ → List Rule → List ℕ
+stableSets n p = keep (stable p) (upTo (2 ^ n))

@@ -1,18 +1,18 @@
 -- Document 01, "Verdict on a guess".
-use Prim.Native.Nat.{ℕ, _^_}
+use Prim.Native.Nat.{ℕ}
 use mathlib.Core.Bool.{Bool, true, false, not, cond}
 use mathlib.Core.List.{List}
 use lib.Dec.{eqb}
 use lib.ListN.{length}
-use Rattle.sets.specs.Lists.{keep, upTo, null}
+use Rattle.sets.specs.Lists.{null}
 use Rattle.sets.specs.Sets.{_∈?_, setOf, ⋂, ⋃}
 use Rattle.semantics.specs.Definitions.Guesses.{Negation, not-known, may-be}
 use Rattle.semantics.specs.Definitions.Setting.{Setting, k, negation}
-use Rattle.semantics.specs.Definitions.Stable.{stable}
+use Rattle.semantics.specs.Definitions.Stable.{stableSets}
 
 -- "Let W be the stable sets of the reduct"; "W by rising number"
 unfoldable pub beliefSets : Setting → ℕ → List ℕ
-beliefSets s g = keep (stable (s .program g)) (upTo (2 ^ s .atoms))
+beliefSets s g = stableSets (s .atoms) (s .program g)
 
 -- "known is their intersection, possible their union"
 abbrev pub knownIn : Setting → List ℕ → ℕ
@@ -41,10 +41,12 @@ pub data Verdict : Type 0 where
 abbrev pub judge : (none differs : Bool) → (found known possible sets : ℕ) → Verdict
 judge none differs found known possible sets = cond none empty (cond differs (other found) (verified known possible sets))
 
+-- of a guess, by its W
+abbrev pub verdictBy : Setting → List ℕ → ℕ → Verdict
+verdictBy s w g = judge (null w) (not (eqb (guessFound s w) g)) (guessFound s w) (knownIn s w) (possibleIn w) (length w)
+
 unfoldable pub verdict : Setting → ℕ → Verdict
-verdict s g =
-    let w = beliefSets s g in
-    judge (null w) (not (eqb (guessFound s w) g)) (guessFound s w) (knownIn s w) (possibleIn w) (length w)
+verdict s g = verdictBy s (beliefSets s g) g
 
 -- which of the three it is; 'verified' is 000's reduct-verifiable (Definition 5)
 abbrev pub isEmpty : Verdict → Bool

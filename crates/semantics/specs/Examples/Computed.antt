@@ -10,16 +10,19 @@ use Rattle.semantics.specs.Definitions.Reading.{times}
 use Rattle.semantics.specs.Definitions.Sheet.{countAt, nameByteAt, nameAt, maskAt, ruleAt, sections}
 use Rattle.semantics.specs.Definitions.Reduct.{reductRule, reduct}
 use Rattle.semantics.specs.Definitions.Setting.{Setting, k}
-use Rattle.semantics.specs.Definitions.Check.{setting, opened, Returned, accepted, returned, check}
-use Rattle.semantics.specs.Definitions.Stable.{reductAt, stable}
-use Rattle.semantics.specs.Definitions.Verdict.{beliefSets, guessFound, verdict, empty, other}
+use Rattle.semantics.specs.Definitions.Check.{setting, opened, check}
+use Rattle.semantics.specs.Definitions.Returned.{Returned, accepted, returned}
+use Rattle.semantics.specs.Definitions.Stable.{reductAt, smallerModel, stable, stableSets}
+use Rattle.semantics.specs.Definitions.Verdict.{beliefSets, guessFound, verdict}
+use Rattle.semantics.specs.Definitions.Calls.{openedFor, verdictCall, beliefSetsCall}
 use Rattle.semantics.specs.Definitions.Propagation.{steps, contradicted}
 use Rattle.semantics.specs.Definitions.Order.{order}
 use Rattle.semantics.specs.Definitions.Listing.{View, Tally, isWorldView, covered, tallyOf, viewsAlong, listing}
 use Rattle.semantics.specs.Walk.{walk}
-use Rattle.semantics.specs.Examples.Sheets.{Listed, zeros, ten, kiln, sheet-2, sheet-3, sheet-6, sheet-7}
+use Rattle.semantics.specs.Examples.Sheets.{Listed, zeros, ten, kiln, sheet-6}
 use Rattle.semantics.specs.Examples.Own.{own}
 use Rattle.semantics.specs.Examples.Limits.{answers}
+use Rattle.semantics.specs.Examples.Guesses.{verdicts, sets}
 
 -- the bytes read, and then something of their setting; or the refusal
 abbrev pub read : {A : Type 0} → (Setting → A) → List ℕ → Returned A
@@ -40,26 +43,22 @@ pub record Computed : Type 0 where
   pub checks : map (λ e. check (e .bytes)) sheets ≡ map (λ e. accepted (e .numbers)) sheets
   pub lists : map (λ e. read listed (e .bytes)) sheets ≡ map (λ e. accepted (e .views, e .tally)) sheets
   pub walks : map (λ e. read walked (e .bytes)) sheets ≡ map (λ e. accepted (e .views, e .tally)) sheets
-  -- "guess 0 of sheet 2 [..] is "other" (found 1)"
-  pub K-is-not-truth : read (λ s. verdict s 0) (sheet-2 .bytes) ≡ accepted (other 1)
-  -- an empty W is not verified, though everything is known in it
-  pub empty-is-empty : read (λ s. verdict s 0) (sheet-3 .bytes) ≡ accepted empty
-  -- "reading "not not a" as a, which loses a set in 7"
-  pub two-sets : read (λ s. beliefSets s 0) (sheet-7 .bytes) ≡ accepted (0 ∷ 1 ∷ [])
   -- "pruning equal sizes, which loses a view in 6"
   pub two-views : read (λ s. map (λ v. v .guess) (listing s)) (sheet-6 .bytes) ≡ accepted (1 ∷ 2 ∷ [])
+  -- what the calls that take a guess return; the other three errors are among these guesses
+  pub verdicts-returned : map (λ p. verdictCall (p .0) (p .1)) verdicts ≡ map (λ p. p .2) verdicts
+  pub sets-returned : map (λ p. beliefSetsCall (p .0) (p .1) (p .2)) sets ≡ map (λ p. p .3) sets
   -- limit cases of the sheet
   pub limits : map (λ p. check (p .0)) answers ≡ map (λ p. p .1) answers
 
 pub computed : Computed
-unfolding ℕ-discrete ones onesIn every some keep flat upTo downFrom sameList setOf zeros times countAt nameByteAt nameAt maskAt ruleAt sections opened check reductRule reduct reductAt stable beliefSets guessFound verdict steps contradicted order isWorldView covered tallyOf viewsAlong walk
+unfolding ℕ-discrete ones onesIn every some keep flat upTo downFrom sameList setOf zeros times countAt nameByteAt nameAt maskAt ruleAt sections opened check reductRule reduct reductAt smallerModel stable stableSets beliefSets guessFound verdict openedFor verdictCall beliefSetsCall steps contradicted order isWorldView covered tallyOf viewsAlong walk
 computed = record {
   checks = refl;
   lists = refl;
   walks = refl;
-  K-is-not-truth = refl;
-  empty-is-empty = refl;
-  two-sets = refl;
   two-views = refl;
+  verdicts-returned = refl;
+  sets-returned = refl;
   limits = refl;
 }

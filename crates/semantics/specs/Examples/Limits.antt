@@ -2,7 +2,8 @@
 use Prim.Native.Nat.{ℕ, _+_}
 use mathlib.Core.List.{List, [], _∷_, _++_}
 use Rattle.sets.specs.Lists.{flat, upTo}
-use Rattle.semantics.specs.Definitions.Check.{Returned, accepted, refusal, Numbers}
+use Rattle.semantics.specs.Definitions.Check.{Numbers}
+use Rattle.semantics.specs.Definitions.Returned.{Returned, accepted, refusal}
 use Rattle.semantics.specs.Examples.Sheets.{zeros, rule, numbers}
 
 -- the number of atoms, n, and the names a, b, c and so on

@@ -10,7 +10,7 @@ use Rattle.sets.specs.Lists.{nowhere, all-getD, getD-upTo}
 use Rattle.sets.specs.Sets.{Below, AllBelow}
 use Rattle.sets.specs.Members.{getD-below}
 use Rattle.semantics.specs.Definitions.Reading.{field, times}
-use Rattle.semantics.specs.Definitions.Sheet.{Sheet, byteAt, wordAt, countAt, nameAt, ruleAt, sections}
+use Rattle.semantics.specs.Definitions.Sheet.{Sheet, byteAt, wordAt, countAt, nameAt, ruleAt, sections, mostAtoms, mostRules}
 use Rattle.semantics.specs.Definitions.Setting.{k}
 use Rattle.semantics.specs.Definitions.Check.{mostNegations, setting, opened}
 use Rattle.semantics.specs.Fields.{namesFrom, afterNames, ruleFrom, rulesFrom}
@@ -20,12 +20,12 @@ use Rattle.semantics.specs.Theorems.Places.{Within, opened-in}
 
 -- what the reading of the sections came through; the number of rules stands at `countedAt`
 pub record Read (s : List ℕ) (x : Sheet) (end : ℕ) : Type 0 where
-  pub few-atoms : length (x .names) ≤ 15
+  pub few-atoms : length (x .names) ≤ mostAtoms
   pub atoms-byte : byteAt s 0 ≡ length (x .names)
   pub some-bytes : 1 ≤ length s
   pub countedAt : ℕ
   pub names-read : times (length (x .names)) [] (nameAt s) 1 ≡ field (x .names) countedAt
-  pub few-rules : length (x .rules) ≤ 64
+  pub few-rules : length (x .rules) ≤ mostRules
   pub rules-byte : byteAt s countedAt ≡ length (x .rules)
   pub more-bytes : countedAt + 1 ≤ length s
   pub after-count : x .rulesAt ≡ countedAt + 1

@@ -1,28 +1,19 @@
 -- What the check answers: it accepts exactly the layouts of names and rules that fit, with their numbers, and its refusals are 1 to 7, each
 -- at a place of at most 1,221. Assumes nothing.
 use Prim.Native.Nat.{ℕ, _≤_}
-use mathlib.Core.Path.{_≡_, refl, ap, _∙_}
+use mathlib.Core.Path.{_≡_, ap, _∙_}
 use mathlib.Core.List.{List, map}
 use mathlib.Core.Logic.{_↔_}
-use native.Mathlib.Omega.{arith}
 use lib.ListN.{length}
-use Rattle.semantics.specs.Definitions.Reading.{Reading, field, refused}
 use Rattle.semantics.specs.Definitions.Sheet.{Sheet, atoms, ruleOfMasks}
 use Rattle.semantics.specs.Definitions.Setting.{settingOf, k}
-use Rattle.semantics.specs.Definitions.Check.{setting, opened, accepted, refusal, returned, Numbers, check}
+use Rattle.semantics.specs.Definitions.Check.{setting, opened, Numbers, check}
+use Rattle.semantics.specs.Definitions.Returned.{accepted, refusal, returned}
+use Rattle.semantics.specs.Theorems.Returned.{was-accepted, reading-refused}
 use Rattle.semantics.specs.Theorems.Places.{refusal-place, refusal-number}
 use Rattle.semantics.specs.Theorems.Layout.{IsBytes, sheetBytes, Fits}
 use Rattle.semantics.specs.Theorems.Fitting.{fits-accepted}
 use Rattle.semantics.specs.Theorems.Exact.{accepted-exactly}
-
-module _ {A : Type 0} (of : Sheet → A) where
-  returned-field : (r : Reading Sheet) (values : A) → returned r (λ x. accepted (of x)) ≡ accepted values → (x : Sheet) × (end : ℕ) × (r ≡ field x end)
-  returned-field (field x end) values e = (x, end, refl)
-  returned-field (refused number place) values e = let z : _≡_ {A = ℕ} 0 1 = cc in absurd (omega arith)
-
-  returned-refused : (r : Reading Sheet) (number place : ℕ) → returned r (λ x. accepted (of x)) ≡ refusal number place → r ≡ refused number place
-  returned-refused (field x end) number place e = let z : _≡_ {A = ℕ} 0 1 = cc in absurd (omega arith)
-  returned-refused (refused n p) number place e = cc
 
 abbrev numbersOf : Sheet → Numbers
 numbersOf x = record { atoms = atoms x; rules = length (x .rules); negations = k (setting x) }
@@ -36,7 +27,7 @@ check-accepts names rules f = ap (λ r. returned r (λ x. accepted (numbersOf x)
 pub check-refuses : (s : List ℕ) (number place : ℕ) → check s ≡ refusal number place → (1 ≤ number) × (number ≤ 7) × (place ≤ 1221)
 unfolding check
 check-refuses s number place e =
-    let r = returned-refused numbersOf (opened s) number place e in
+    let r = reading-refused numbersOf (opened s) e in
     let (low, high) = refusal-number s number place r in
     (low, high, refusal-place s number place r)
 
@@ -45,6 +36,6 @@ pub check-exactly : (s : List ℕ) → IsBytes s
     ↔ ((names : List (List ℕ)) × (rules : List (List ℕ)) × Fits names rules × (s ≡ sheetBytes names rules))
 unfolding check
 check-exactly s small = (
-  λ p. accepted-exactly s small .0 (returned-field numbersOf (opened s) (p .0) (p .1)),
+  λ p. accepted-exactly s small .0 (let (x, end, d, _) = was-accepted (λ x. accepted (numbersOf x)) (opened s) (p .1) in (x, end, d)),
   λ p. let (names, rules, f, e) = p in (_, ap check e ∙ check-accepts names rules f),
 )

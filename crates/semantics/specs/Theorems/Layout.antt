@@ -10,7 +10,7 @@ use Rattle.sets.specs.Lists.{_among_, nowhere, all-snoc, null, sameList, flat, 
 use Rattle.sets.specs.Pairwise.{Distinct, pairwise-snoc}
 use Rattle.sets.specs.Sets.{AllBelow}
 use Rattle.semantics.specs.Definitions.Reading.{field, times}
-use Rattle.semantics.specs.Definitions.Sheet.{Sheet, ruleOfMasks, byteAt, nameByte, nameByteAt, nameAt}
+use Rattle.semantics.specs.Definitions.Sheet.{Sheet, ruleOfMasks, byteAt, nameByte, nameByteAt, nameAt, mostAtoms, mostRules}
 use Rattle.semantics.specs.Definitions.Setting.{settingOf, k}
 use Rattle.semantics.specs.Definitions.Check.{mostNegations, opened}
 use Rattle.semantics.specs.Fields.{ruleFrom}
@@ -45,12 +45,12 @@ sheetOf names rules = record { names = names; rules = rules; rulesAt = 1 + lengt
 
 pub record Fits (names rules : List (List ℕ)) : Type 0 where
   -- "the number of atoms, 0 to 15"
-  pub few-names : length names ≤ 15
+  pub few-names : length names ≤ mostAtoms
   pub good-names : (n : List ℕ) → n among names → GoodName n
   -- "Names differ from each other."
   pub distinct : Distinct names
   -- "the number of rules, 0 to 64"
-  pub few-rules : length rules ≤ 64
+  pub few-rules : length rules ≤ mostRules
   pub whole-rules : (r : List ℕ) → r among rules → length r ≡ 8
   -- no mask has "a bit at or above the atom count"
   pub masks-below : AllBelow (length names) rules

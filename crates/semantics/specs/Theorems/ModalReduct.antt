@@ -7,16 +7,17 @@ use mathlib.Core.List.{List, [], _∷_}
 use mathlib.Core.Logic.{_↔_, inl, inr, ⊎-elim}
 use lib.ListN.{length}
 use Rattle.sets.specs.Decides.{Decides, decided, does, dec-one, dec-iff, dec-not}
-use Rattle.sets.specs.Lists.{_among_, nowhere, first-or-later, every, some, keep, among-keep, upTo, among-upTo, dec-every, dec-some, some-same, map-keep-same}
+use Rattle.sets.specs.Lists.{_among_, nowhere, first-or-later, every, some, upTo, among-upTo, dec-every, dec-some, some-same, map-keep-same}
 use Rattle.sets.specs.Sets.{_∈_, _⊂_, _∈?_, _∪_}
 use Rattle.sets.specs.Members.{dec-∈, setOf-same}
 use Rattle.semantics.specs.Definitions.Rules.{Rule, EpistemicRule, Subjective, K, notK, M, notM}
 use Rattle.semantics.specs.Definitions.Guesses.{Negation, not-known, may-be, negationsOf, numbered, assumed}
 use Rattle.semantics.specs.Definitions.Reduct.{Action, becomes-a, becomes-not-a, becomes-not-not-a, rule-deleted, sameAction, table, holdsBy, acted, reductRule, reduct}
 use Rattle.semantics.specs.Definitions.Setting.{Setting, settingOf, k, negation}
-use Rattle.semantics.specs.Definitions.Stable.{stable}
+use Rattle.semantics.specs.Definitions.Stable.{stableSets}
 use Rattle.semantics.specs.Definitions.Verdict.{beliefSets, guessFound}
 use Rattle.semantics.specs.Theorems.Negations.{definition-3, dec-assumed}
+use Rattle.semantics.specs.Theorems.Stable.{among-stable-sets}
 use Rattle.semantics.specs.Theorems.Verdict.{Satisfied, Verifiable, found-exact, found-below, verifiable-found}
 use Rattle.semantics.specs.Theorems.WorldView.{WorldView}
 
@@ -97,7 +98,7 @@ module _ (n : ℕ) (rs : List EpistemicRule) where
   -- W is not empty, and is the stable sets of its modal reduct
   pub record FixedPoint (w : List ℕ) : Type 0 where
     pub non-empty : (i : ℕ) × (i among w)
-    pub same : w ≡ keep (stable (modalReduct n rs w)) (upTo (2 ^ n))
+    pub same : w ≡ stableSets n (modalReduct n rs w)
 
   -- and no other such W satisfies all its negations and more
   pub record WorldViewSet (w : List ℕ) : Type 0 where
@@ -107,11 +108,11 @@ module _ (n : ℕ) (rs : List EpistemicRule) where
   -- a fixed point is the belief sets of the guess that it satisfies, which is reduct-verifiable
   fixed-exact : (w : List ℕ) → FixedPoint w → (j : ℕ) → j < k s → (j ∈ guessFound s w) ↔ Satisfied w (negation s j)
   fixed-exact w f =
-      found-exact s w (λ i m. among-upTo (2 ^ n) .0 (among-keep _ (upTo (2 ^ n)) .0 (subst (λ z. i among z) (f .same) m) .0)) (f .non-empty)
+      found-exact s w (λ i m. among-stable-sets n (modalReduct n rs w) .0 (subst (λ z. i among z) (f .same) m) .0) (f .non-empty)
 
   fixed-sets : (w : List ℕ) → FixedPoint w → beliefSets s (guessFound s w) ≡ w
   unfolding beliefSets
-  fixed-sets w f = ap (λ p. keep (stable p) (upTo (2 ^ n))) (reducts-same n rs (guessFound s w) w (fixed-exact w f)) ∙ sym (f .same)
+  fixed-sets w f = ap (stableSets n) (reducts-same n rs (guessFound s w) w (fixed-exact w f)) ∙ sym (f .same)
 
   fixed-verifiable : (w : List ℕ) → FixedPoint w → Verifiable s (guessFound s w)
   fixed-verifiable w f =
@@ -125,7 +126,7 @@ module _ (n : ℕ) (rs : List EpistemicRule) where
   unfolding beliefSets
   verifiable-fixed g v = record {
     non-empty = v .non-empty;
-    same = ap (λ p. keep (stable p) (upTo (2 ^ n))) (reducts-same n rs g (beliefSets s g) (v .exact));
+    same = ap (stableSets n) (reducts-same n rs g (beliefSets s g) (v .exact));
   }
 
   pub definition-4 : (w : List ℕ) → WorldViewSet w ↔ ((g : ℕ) × (g < 2 ^ k s) × WorldView s g × (beliefSets s g ≡ w))

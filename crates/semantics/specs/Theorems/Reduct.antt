@@ -30,7 +30,7 @@ module _ (n : ℕ) (holds : Subjective → ℕ → Bool) where
   abbrev pub Deleted : EpistemicRule → Type 0
   Deleted r = (a : ℕ) × (a < n) × Acted holds r rule-deleted a
 
-  dec-deleted : (r : EpistemicRule) → Decides (Deleted r) (deleted n holds r)
+  pub dec-deleted : (r : EpistemicRule) → Decides (Deleted r) (deleted n holds r)
   dec-deleted r = dec-any _ _ n (λ a _. dec-acted r rule-deleted a)
 
   -- what an objective mask has in the reduct: its own atoms, and those that the table brings there

@@ -1,7 +1,8 @@
 -- 002: the test `stable` decides "a model of the reduced program of which no proper subset is a model". Assumes nothing.
 use Prim.Native.Nat.{ℕ, _^_, _<_}
 use mathlib.Core.Path.{refl, sym, subst}
-use mathlib.Core.List.{List}
+use mathlib.Core.Bool.{Bool}
+use mathlib.Core.List.{List, map}
 use mathlib.Core.Logic.{_↔_}
 use Rattle.sets.specs.Decides.{Decides, is-true, dec-iff, dec-not, dec-and, dec-imp}
 use Rattle.sets.specs.Lists.{_among_, keep, among-keep, among-kept, among-map, upTo, dec-every, dec-any}
@@ -10,7 +11,7 @@ use Rattle.sets.specs.Sets.{_⊆_, _⊂_, Meets}
 use Rattle.sets.specs.Members.{∈-∅, ∅-⊆, dec-⊆, dec-⊂, dec-meets, ⊂-less}
 use Rattle.semantics.specs.Definitions.Rules.{Rule}
 use Rattle.semantics.specs.Definitions.Setting.{Setting}
-use Rattle.semantics.specs.Definitions.Stable.{negationsHold, satisfies, isModel, positive, reductAt, stable}
+use Rattle.semantics.specs.Definitions.Stable.{negationsHold, satisfies, isModel, positive, reductAt, smallerModel, stable, stableSets}
 use Rattle.semantics.specs.Definitions.Verdict.{beliefSets}
 
 -- the "not" and "not not" literals of the rule hold in i
@@ -36,34 +37,48 @@ dec-model p i =
     dec-every (satisfies i) (Satisfies i) p
     (λ r _. dec-imp (dec-and (dec-⊆ (r .plain) i) (dec-negations i r)) (dec-meets (r .head) i))
 
+pub dec-smaller : (p : List Rule) (i : ℕ) → Decides ((j : ℕ) × (j ⊂ i) × Model p j) (smallerModel p i)
+unfolding smallerModel
+dec-smaller p i =
+    dec-iff (λ h. (h .0, h .2 .0, h .2 .1), λ h. (h .0, ⊂-less (h .1), (h .1, h .2)))
+    (dec-any _ _ i (λ j _. dec-and (dec-⊂ j i) (dec-model p j)))
+
 pub dec-stable : (p : List Rule) (i : ℕ) → Decides (Stable p i) (stable p i)
 unfolding stable
 dec-stable p i =
     let q = reductAt i p in
     dec-iff (
-      λ h. record { model = h .0; minimal = λ j s m. h .1 (j, ⊂-less s, (s, m)) },
-      λ st. (st .model, λ h. st .minimal (h .0) (h .2 .0) (h .2 .1)),
-    ) (dec-and (dec-model q i) (dec-not (dec-any _ _ i (λ j _. dec-and (dec-⊂ j i) (dec-model q j)))))
+      λ h. record { model = h .0; minimal = λ j s m. h .1 (j, s, m) },
+      λ st. (st .model, λ h. st .minimal (h .0) (h .1) (h .2)),
+    ) (dec-and (dec-model q i) (dec-not (dec-smaller q i)))
+
+pub among-stable-sets : (n : ℕ) (p : List Rule) {i : ℕ} → i among stableSets n p ↔ ((i < 2 ^ n) × Stable p i)
+unfolding stableSets
+among-stable-sets n p = among-kept (Stable p) (stable p) (dec-stable p) (2 ^ n)
 
 -- W is the stable sets of the reduct, each once, rising
 pub among-belief-sets : (s : Setting) (g : ℕ) {i : ℕ} → i among beliefSets s g ↔ ((i < 2 ^ s .atoms) × Stable (s .program g) i)
 unfolding beliefSets
-among-belief-sets s g = among-kept (Stable (s .program g)) (stable (s .program g)) (dec-stable (s .program g)) (2 ^ s .atoms)
+among-belief-sets s g = among-stable-sets (s .atoms) (s .program g)
 
 pub belief-sets-rising : (s : Setting) (g : ℕ) → Pairwise _<_ (beliefSets s g)
-unfolding beliefSets
+unfolding beliefSets stableSets
 belief-sets-rising s g = pairwise-keep _ _ (upTo (2 ^ s .atoms)) (upTo-rising (2 ^ s .atoms))
 
 -- ---- the reduced program's models, by the rules of the program itself
 abbrev pub ReducedModel : List Rule → (i j : ℕ) → Type 0
 ReducedModel p i j = (r : Rule) → r among p → NegationsHold i r → r .plain ⊆ j → Meets (r .head) j
 
+-- the rules of which P holds, without their "not" and "not not" literals
+pub positive-model : (P : Rule → Type 0) (f : Rule → Bool) → ((r : Rule) → Decides (P r) (f r)) → (p : List Rule) (j : ℕ)
+    → Model (map positive (keep f p)) j ↔ ((r : Rule) → r among p → P r → r .plain ⊆ j → Meets (r .head) j)
+positive-model P f d p j = (
+  λ m r k q b. m (positive r) (among-map positive (keep f p) .1 (r, among-keep f p .1 (k, is-true (d r) q), refl)) (b, ((λ x. ∈-∅ (x .left)), ∅-⊆)),
+  λ m q k. let (r, l, e) = among-map positive (keep f p) .0 k in
+      let (n, t) = among-keep f p .0 l in
+      subst (Satisfies j) (sym e) (λ b. m r n (d r .yes t) (b .0)),
+)
+
 pub reduced-model : (p : List Rule) (i j : ℕ) → Model (reductAt i p) j ↔ ReducedModel p i j
 unfolding reductAt
-reduced-model p i j = (
-  λ f r m n b. f (positive r) (among-map positive (keep (negationsHold i) p) .1 (r, among-keep (negationsHold i) p .1 (m, is-true (dec-negations i r) n), refl))
-      (b, ((λ x. ∈-∅ (x .left)), ∅-⊆)),
-  λ f q m. let (r, k, e) = among-map positive (keep (negationsHold i) p) .0 m in
-      let (l, t) = among-keep (negationsHold i) p .0 k in
-      subst (Satisfies j) (sym e) (λ b. f r l (dec-negations i r .yes t) (b .0)),
-)
+reduced-model p i j = positive-model (NegationsHold i) (negationsHold i) (dec-negations i) p j

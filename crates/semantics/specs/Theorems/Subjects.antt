@@ -49,7 +49,7 @@ module _ (n : ℕ) (rules : List (List ℕ)) (below : AllBelow n rules) where
   mAtoms-below = masks-below 6 7
 
 -- the same question of the rules as the definitions take them
-mentioned-in : (rules : List (List ℕ)) (m m′ : Subjective) (a : ℕ)
+pub mentioned-in : (rules : List (List ℕ)) (m m′ : Subjective) (a : ℕ)
     → mentioned (map ruleOfMasks rules) m m′ a ≡ (a ∈? ⋃ (masksOf (maskNumber m) (maskNumber m′) rules))
 mentioned-in rules m m′ a =
     let x = ⋃ (masksOf (maskNumber m) (maskNumber m′) rules) in

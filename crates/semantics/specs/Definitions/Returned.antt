@@ -1,0 +1,27 @@
+-- Document 01, "Turned back at the door": what a call returns, and what it leaves in a lent buffer.
+use Prim.Native.Nat.{ℕ}
+use mathlib.Core.List.{List, _++_}
+use lib.ListN.{length, drop}
+use Rattle.semantics.specs.Definitions.Reading.{Reading, field, refused}
+use Rattle.semantics.specs.Definitions.Sheet.{Sheet}
+
+-- What a call returns: its values where it is accepted, or the refusal's number and place (a place in the sheet, or the other number that
+-- the table "Returned" gives).
+pub data Returned (A : Type 0) : Type 0 where
+  accepted : (values : A) → Returned A
+  refusal : (number place : ℕ) → Returned A
+
+-- the refusal that ended the reading, or what is returned for the sheet
+abbrev pub returned : {A : Type 0} → Reading Sheet → (Sheet → Returned A) → Returned A
+returned (field x end) of = of x
+returned (refused number place) of = refusal number place
+
+-- "When a call is accepted, whatever part of a lent buffer its answer doesn't fill keeps its contents.": a lent buffer after the words ws
+-- are written to its front
+abbrev pub written : List ℕ → List ℕ → List ℕ
+written ws buffer = ws ++ drop (length ws) buffer
+
+-- "Every lent buffer holds what it held" where the call is refused: a lent buffer after a call whose values are written to it as words
+abbrev pub afterwards : {A : Type 0} → (A → List ℕ) → Returned A → List ℕ → List ℕ
+afterwards words (accepted values) buffer = written (words values) buffer
+afterwards words (refusal number place) buffer = buffer
