@@ -1,0 +1,3 @@
+// A guess: its negations by number, and its reduct.
+pub mod negations;
+pub mod reduct;

@@ -1,0 +1,124 @@
+-- `stable::smaller_model` meets its contract. The loop over the subsets has found no smaller model among those tried; the loop over the
+-- rules has passed only rules that hold in the subset. Assumes nothing.
+use Prim.Native.Nat.{ℕ, _-_, _≤_, _<_}
+use mathlib.Core.Path.{_≡_, refl, sym, _∙_}
+use mathlib.Core.Bool.{Bool, true, false, not, _&&_, true≢false}
+use native.Mathlib.Omega.{arith}
+use borrow.Author.Count.{below-none, below-more}
+use borrow.Author.Tests.{not-true, not-false, ltb-true}
+use lib.Dec.{ltb}
+use Rattle.sets.specs.Decides.{is-true}
+use Rattle.sets.specs.Members.{next-less}
+use Rattle.semantics.specs.Definitions.Stable.{satisfies}
+use Rattle.semantics.specs.Theorems.Stable.{dec-model}
+use Rattle.stable.specs.Applied.{positiveIn, positiveProgramIn}
+use Rattle.stable.proofs.Written.{dec-positive, no-model}
+use Rattle.stable.proofs.Tried.{Tried, tried-first, tried-next, tried-all, found}
+use borrow.Author.Needs.{needs}
+use Rattle.stable.proofs.smaller_model.Statement.{statement}
+use Rattle.stable.proofs.smaller_model.Tie as tie
+
+-- what the answer of `fails` says
+failed : (j n : ℕ) {b : Bool} → ltb j n && not b ≡ true → (j < n) × (b ≡ false)
+failed j n {b} e = go (ltb j n) b refl e
+  where
+    go : (a b : Bool) → ltb j n ≡ a → a && not b ≡ true → (j < n) × (b ≡ false)
+    go true true d z = absurd (true≢false (sym z))
+    go true false d z = (ltb-true j n d, refl)
+    go false b d z = absurd (true≢false (sym z))
+
+abbrev Inv-rules : tie.InvT-rules
+Inv-rules positive rules i found₀ last₀ s j₀ found last j = (found ≡ false) × (j ≤ rules) × ((k : ℕ) → k < j → satisfies s (positiveIn positive k) ≡ true)
+
+abbrev μ-rules : tie.MeasureT-rules
+μ-rules positive rules i found₀ last₀ s j₀ found last j = rules - j
+
+abbrev Inv-subsets : tie.InvT-subsets
+Inv-subsets positive rules i found₀ last₀ s₀ found last s = (found ≡ false) × Tried (positiveProgramIn positive rules) i s
+
+abbrev μ-subsets : tie.MeasureT-subsets
+μ-subsets positive rules i found₀ last₀ s₀ found last s = s
+
+subsets-holds : tie.Need-subsets-holds Inv-rules μ-rules Inv-subsets μ-subsets
+subsets-holds c = let a = c .before .args in (refl, tried-first (positiveProgramIn (a .positive .now) (a .rules)) (a .i))
+
+sub-s : tie.Need-sub-s Inv-rules μ-rules Inv-subsets μ-subsets
+sub-s c = search needs
+
+fails-requires : tie.Need-fails-requires Inv-rules μ-rules Inv-subsets μ-subsets
+fails-requires c κs = search needs
+
+subsets-less : tie.Need-subsets-less Inv-rules μ-rules Inv-subsets μ-subsets
+subsets-less c = next-less (c .before .before .before .subsets .s) (c .before .before .before .before .before .args .i) (omega arith)
+
+subsets-again : tie.Need-subsets-again Inv-rules μ-rules Inv-subsets μ-subsets
+subsets-again c =
+    let l = c .before .before .before .subsets in
+    let a = c .before .before .before .before .before .args in
+    let (there, fails) = failed (l .last) (a .rules) (sym (c .before .fails .ensures) ∙ c .if1 .taken) in
+    (l .inv .0, tried-next (positiveProgramIn (a .positive .now) (a .rules)) (a .i) (l .inv .1) (no-model (a .positive .now) (a .rules) _ (l .last) there fails))
+
+rules-holds : tie.Need-rules-holds Inv-rules μ-rules Inv-subsets μ-subsets
+rules-holds c = (c .before .before .before .subsets .inv .0, omega arith, below-none _)
+
+positive-satisfied-requires : tie.Need-positive-satisfied-requires Inv-rules μ-rules Inv-subsets μ-subsets
+positive-satisfied-requires c κs = search needs
+
+subsets-less-2 : tie.Need-subsets-less-2 Inv-rules μ-rules Inv-subsets μ-subsets
+subsets-less-2 c = next-less (c .before .before .before .before .before .before .before .subsets .s) (c .before .before .before .before .before .before .before .before .before .args .i) (omega arith)
+
+subsets-again-2 : tie.Need-subsets-again-2 Inv-rules μ-rules Inv-subsets μ-subsets
+subsets-again-2 c =
+    let r = c .before .before .before .rules in
+    let l = c .before .before .before .before .before .before .before .subsets in
+    let a = c .before .before .before .before .before .before .before .before .before .args in
+    let e = sym (c .before .positive-satisfied .ensures) ∙ not-true _ (c .if3 .taken) in
+    (r .inv .0, tried-next (positiveProgramIn (a .positive .now) (a .rules)) (a .i) (l .inv .1) (no-model (a .positive .now) (a .rules) _ (r .j) (c .before .before .if2 .left) e))
+
+add-j : tie.Need-add-j Inv-rules μ-rules Inv-subsets μ-subsets
+add-j c = search needs
+
+rules-less : tie.Need-rules-less Inv-rules μ-rules Inv-subsets μ-subsets
+rules-less c = search needs
+
+rules-again : tie.Need-rules-again Inv-rules μ-rules Inv-subsets μ-subsets
+rules-again c =
+    let inv = c .before .before .before .rules .inv in
+    (inv .0, omega arith, below-more _ _ (inv .2) (sym (c .before .positive-satisfied .ensures) ∙ not-false _ (c .if3 .left)))
+
+returns : tie.Need-returns Inv-rules μ-rules Inv-subsets μ-subsets
+returns c =
+    let a = c .before .before .before .args in
+    let inv = c .before .subsets .inv in
+    inv .0 ∙ sym (tried-all (positiveProgramIn (a .positive .now) (a .rules)) (a .i) (inv .1) (omega arith))
+
+returns-2 : tie.Need-returns-2 Inv-rules μ-rules Inv-subsets μ-subsets
+returns-2 c =
+    let a = c .before .before .before .before .before .before .before .args in
+    let l = c .before .before .before .before .before .subsets in
+    let p = positiveProgramIn (a .positive .now) (a .rules) in
+    let all = is-true (dec-positive (a .positive .now) (a .rules) _) (λ k h. c .before .rules .inv .2 k (omega arith)) in
+    sym (found p (a .i) (l .inv .1) (omega arith) (dec-model p _ .yes all))
+
+pub smaller-model-spec : {M : Type 1} → statement M
+smaller-model-spec =
+    tie.close
+    (tie.spec
+    Inv-rules
+    μ-rules
+    Inv-subsets
+    μ-subsets
+    subsets-holds
+    sub-s
+    fails-requires
+    subsets-less
+    subsets-again
+    rules-holds
+    positive-satisfied-requires
+    subsets-less-2
+    subsets-again-2
+    add-j
+    rules-less
+    rules-again
+    returns
+    returns-2)
