@@ -1,133 +1,20 @@
 #!/usr/bin/env python3
 """Limit cases of the sheet check: makes crates/limits/stdin and crates/limits/stdout.
 
-A case in the input: one byte, the title's length; the title; two bytes, the
-sheet's length, low byte first; the sheet. A line of the expected output: the
+A case has a title and a sheet (files.py). A line of the expected output: the
 title, a colon, and the answer's numbers, each after a space.
 
 Each expected answer below is written by hand from document 01. The function
-`answer` reads sheets by the same document; where the two differ, nothing is
-written. With --check the files are only compared.
+`answer` of reader.py reads sheets by the same document; where the two differ,
+nothing is written. With --check the files are only compared.
 """
 
 import sys
-from pathlib import Path
 
-FOLDER = Path(__file__).resolve().parent.parent / "crates" / "limits"
-MOST_INPUT = 60000  # bytes of all cases together; the program's buffer has 65,536
+from files import case_bytes, write_or_compare
+from reader import answer
+from sheets import ALPHABET, FULL, K, LONG, LONGEST, M, NOTHING, NOT_K, NOT_M, cut, letters, make, put, rule
 
-
-# Reading a sheet by document 01.
-
-def answer(sheet):
-    """[refusal, place], or [0, atoms, rules, negations] of an accepted sheet."""
-    length = len(sheet)
-    too_short = [1, length]
-    place = 0
-
-    if length < 1:
-        return too_short
-    atoms = sheet[0]
-    if atoms > 15:
-        return [2, 0]
-    place = 1
-
-    names = []
-    for _ in range(atoms):
-        start = place
-        if length < start + 1:
-            return too_short
-        size = sheet[start]
-        if size < 1 or size > 12:
-            return [3, start]
-        if length < start + 1 + size:
-            return too_short
-        for i in range(size):
-            good = b"abcdefghijklmnopqrstuvwxyz"
-            if i > 0:
-                good += b"0123456789_"
-            if sheet[start + 1 + i] not in good:
-                return [3, start + 1 + i]
-        name = sheet[start + 1:start + 1 + size]
-        if name in names:
-            return [4, start]
-        names.append(name)
-        place = start + 1 + size
-
-    if length < place + 1:
-        return too_short
-    rules = sheet[place]
-    if rules > 64:
-        return [2, place]
-    place += 1
-
-    read = []
-    for _ in range(rules):
-        if length < place + 16:
-            return too_short
-        masks = []
-        for m in range(8):
-            mask = sheet[place + 2 * m] + 256 * sheet[place + 2 * m + 1]
-            if mask >= 2 ** atoms:
-                return [5, place + 2 * m]
-            masks.append(mask)
-        read.append(masks)
-        place += 16
-
-    if length > place:
-        return [6, place]
-
-    negations = 0
-    for atom in range(atoms):
-        bit = 2 ** atom
-        if any(masks[4] & bit or masks[5] & bit for masks in read):
-            negations += 1
-        if any(masks[6] & bit or masks[7] & bit for masks in read):
-            negations += 1
-    if negations > 12:
-        return [7, 0]
-    return [0, atoms, rules, negations]
-
-
-# Building sheets. Nothing is checked here: bad names and bad masks are built too.
-
-def rule(masks):
-    """A rule's 16 bytes; masks not given are 0."""
-    return b"".join(masks.get(m, 0).to_bytes(2, "little") for m in range(8))
-
-
-def make(names, rules=()):
-    out = bytes([len(names)])
-    for name in names:
-        out += bytes([len(name)]) + name.encode("ascii")
-    return out + bytes([len(rules)]) + b"".join(rules)
-
-
-def put(sheet, place, byte):
-    """The sheet with another byte at a place."""
-    return sheet[:place] + bytes([byte]) + sheet[place + 1:]
-
-
-def cut(sheet, length):
-    """The sheet's first bytes."""
-    assert length < len(sheet)
-    return sheet[:length]
-
-
-ALPHABET = "abcdefghijklmnopqrstuvwxyz"
-
-
-def letters(count):
-    """One-letter names. The rule count is at 1 + 2 * count, the rules after it."""
-    return list(ALPHABET[:count])
-
-
-HEAD, PLAIN, NOT, NOT_NOT, K, NOT_K, M, NOT_M = range(8)
-NOTHING = rule({})
-LONG = ["word_number" + letter for letter in letters(15)]  # 12 bytes each
-FULL = {HEAD: 32767, PLAIN: 32767, NOT: 32767, NOT_NOT: 32767}
-# Names: lengths at 1, 14, ..., 183; rule count at 196; rules at 197, ..., 1205.
-LONGEST = make(LONG, [rule({**FULL, K: 63, NOT_M: 63})] * 64)
 # Lengths at 1 and 4, rule count at 8, rules at 9 and 25, 41 bytes.
 TWO = make(["ab", "cde"], [rule({m: 3 for m in range(8)})] * 2)
 # Lengths at 1, 5, 9, rule count at 13.
@@ -304,37 +191,17 @@ case("13 negations and next rule missing",
 case("16 atoms and bad names", make(["", "A", "A"] + [""] * 13), 2, 0)
 
 
-def main():
-    if sys.argv[1:] not in ([], ["--check"]):
-        sys.exit("use: limits.py [--check]")
+def made():
+    """The bytes of each case and its line of output."""
     wrong = [f"{title}: by hand {numbers}, read {answer(sheet)}"
              for title, sheet, numbers in CASES if answer(sheet) != numbers]
     if wrong:
         sys.exit("\n".join(wrong))
     if len({title for title, _, _ in CASES}) != len(CASES):
         sys.exit("two cases have one title")
-    given = b""
-    expected = b""
-    for title, sheet, numbers in CASES:
-        text = title.encode("ascii")
-        given += bytes([len(text)]) + text + len(sheet).to_bytes(2, "little") + sheet
-        expected += text + b":" + b"".join(b" %d" % n for n in numbers) + b"\n"
-    if len(given) >= MOST_INPUT:
-        sys.exit(f"{len(given)} bytes of input are too many")
-
-    files = ((FOLDER / "stdin", given), (FOLDER / "stdout", expected))
-    if sys.argv[1:] == ["--check"]:
-        stale = [str(path) for path, data in files
-                 if not path.is_file() or path.read_bytes() != data]
-        if stale:
-            sys.exit("not as made here: " + ", ".join(stale))
-        print(f"as made here: {len(CASES)} cases, {len(given)} bytes of input")
-    else:
-        FOLDER.mkdir(parents=True, exist_ok=True)
-        for path, data in files:
-            path.write_bytes(data)
-        print(f"written: {len(CASES)} cases, {len(given)} bytes of input")
+    return [(case_bytes(title, sheet), f"{title}:" + "".join(f" {n}" for n in numbers) + "\n")
+            for title, sheet, numbers in CASES]
 
 
 if __name__ == "__main__":
-    main()
+    write_or_compare("limits", made)

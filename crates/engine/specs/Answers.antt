@@ -1,22 +1,70 @@
 -- "When an answer is an enum, a definition gives this paper's number and values for each of its cases". Assumes nothing.
 use Prim.Native.Nat.{ℕ}
-use mathlib.Core.Path.{_≡_, ap}
-use native.Mathlib.Omega.{arith}
-use Rattle.semantics.specs.Definitions.Check.{Returned, accepted, refusal, Numbers}
+use mathlib.Core.Path.{_≡_, refl, sym, ap, _∙_}
+use Rattle.semantics.specs.Definitions.Check.{Numbers}
+use Rattle.semantics.specs.Definitions.Returned.{Returned, accepted, refusal}
+use Rattle.semantics.specs.Definitions.Verdict as meant
 use Rattle.engine.specs.declared.Checked.{Checked}
 use Rattle.engine.specs.declared.Checked.the-variants.{Accepted, Refused}
+use Rattle.engine.specs.declared.Judged.{Judged}
+use Rattle.engine.specs.declared.Judged.the-variants as judgements
+use Rattle.engine.specs.declared.Counted.{Counted}
+use Rattle.engine.specs.declared.Counted.the-variants as counts
 
 -- "The check of an accepted sheet answers with the numbers of atoms, of rules and of negations"
 abbrev pub checked : Checked → Returned Numbers
 checked (Accepted atoms rules negations) = accepted (record { atoms = atoms; rules = rules; negations = negations })
 checked (Refused number place) = refusal number place
 
--- no two answers mean the same: what an answer means fixes it
+-- ""empty""; ""other", with the guess found"; ""verified", with known, possible and the number of sets"
+abbrev pub judged : Judged → Returned meant.Verdict
+judged judgements.Empty = accepted meant.empty
+judged (judgements.Other found) = accepted (meant.other found)
+judged (judgements.Verified known possible sets) = accepted (meant.verified known possible sets)
+judged (judgements.Refused number place) = refusal number place
+
+-- "with the count"
+abbrev pub counted : Counted → Returned ℕ
+counted (counts.Accepted count) = accepted count
+counted (counts.Refused number place) = refusal number place
+
+-- What an answer means fixes it: no two answers mean the same.
+answerChecked : Returned Numbers → Checked
+answerChecked (accepted v) = Accepted (v .atoms) (v .rules) (v .negations)
+answerChecked (refusal number place) = Refused number place
+
+answerJudged : Returned meant.Verdict → Judged
+answerJudged (accepted meant.empty) = judgements.Empty
+answerJudged (accepted (meant.other found)) = judgements.Other found
+answerJudged (accepted (meant.verified known possible sets)) = judgements.Verified known possible sets
+answerJudged (refusal number place) = judgements.Refused number place
+
+answerCounted : Returned ℕ → Counted
+answerCounted (accepted count) = counts.Accepted count
+answerCounted (refusal number place) = counts.Refused number place
+
+checked-back : (r : Checked) → answerChecked (checked r) ≡ r
+unfolding answerChecked
+checked-back (Accepted atoms rules negations) = refl
+checked-back (Refused number place) = refl
+
+judged-back : (r : Judged) → answerJudged (judged r) ≡ r
+unfolding answerJudged
+judged-back judgements.Empty = refl
+judged-back (judgements.Other found) = refl
+judged-back (judgements.Verified known possible sets) = refl
+judged-back (judgements.Refused number place) = refl
+
+counted-back : (r : Counted) → answerCounted (counted r) ≡ r
+unfolding answerCounted
+counted-back (counts.Accepted count) = refl
+counted-back (counts.Refused number place) = refl
+
 pub checked-fixed : (r q : Checked) → checked r ≡ checked q → r ≡ q
-checked-fixed (Accepted a n k) (Accepted b m l) e = ap (λ v. Accepted (v .atoms) (v .rules) (v .negations)) (values e)
-  where
-    values : {v w : Numbers} → accepted v ≡ accepted w → v ≡ w
-    values d = cc
-checked-fixed (Accepted a n k) (Refused m p) e = let z : _≡_ {A = ℕ} 0 1 = cc in absurd (omega arith)
-checked-fixed (Refused n p) (Accepted b m l) e = let z : _≡_ {A = ℕ} 0 1 = cc in absurd (omega arith)
-checked-fixed (Refused n p) (Refused m q) e = cc
+checked-fixed r q e = sym (checked-back r) ∙ ap answerChecked e ∙ checked-back q
+
+pub judged-fixed : (r q : Judged) → judged r ≡ judged q → r ≡ q
+judged-fixed r q e = sym (judged-back r) ∙ ap answerJudged e ∙ judged-back q
+
+pub counted-fixed : (r q : Counted) → counted r ≡ counted q → r ≡ q
+counted-fixed r q e = sym (counted-back r) ∙ ap answerCounted e ∙ counted-back q

@@ -1,2 +1,3 @@
--- What the answers of the calls mean.
+-- What the answers of the calls mean, and the demands that they meet.
 pub mod Answers
+pub mod Demand2

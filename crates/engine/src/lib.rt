@@ -1,9 +1,21 @@
-// The calls sold: bytes in, answers out. No call has a `requires`, and each contract is the whole answer for every input.
+// The calls sold: bytes in, answers out. No call has a `requires`, and each contract is the whole answer and every lent word for every
+// input.
+mod lent;
+
+use lent::write;
+use sets::power;
 use sheet::Opened;
 use sheet::open;
+use verdict::Verdict;
+use verdict::belief_sets as gather;
+use verdict::verdict_on;
 ghost use mathlib.Core.Path.{_≡_};
+ghost use lib.ListN.{length};
 ghost use Rattle.semantics.specs.Definitions.Check.{check as checkOf};
-ghost use Rattle.engine.specs.Answers.{checked};
+ghost use Rattle.semantics.specs.Definitions.Returned.{afterwards};
+ghost use Rattle.semantics.specs.Definitions.Calls.{openedFor, verdictCall, beliefSetsCall, withCount};
+ghost use Rattle.sheet.specs.Opened.{openedOf};
+ghost use Rattle.engine.specs.Answers.{checked, judged, counted};
 
 // What the check answers: the numbers of atoms, of rules and of negations, or a refusal by its number and place.
 pub enum Checked {
@@ -18,6 +30,30 @@ pub enum Checked {
     },
 }
 
+// What the verdict on a guess answers: it has no belief set; its belief sets find another guess; or it is verified, with the atoms that are
+// known, those that are possible, and the number of belief sets. Or a refusal by its number and place.
+pub enum Judged {
+    Empty,
+    Other {
+        found: u16,
+    },
+    Verified {
+        known: u16,
+        possible: u16,
+        sets: usize,
+    },
+    Refused {
+        number: u8,
+        place: usize,
+    },
+}
+
+// How many belief sets were written, or a refusal by its number and place (for 9: the number of sets).
+pub enum Counted {
+    Accepted { count: usize },
+    Refused { number: u8, place: usize },
+}
+
 // Checks a sheet: refusals 1 to 7.
 pub fn check(sheet: &[u8]) -> Checked
     ensures { λ r. ⌜ checked r ≡ checkOf (now (sheet .entry)) ⌝ }
@@ -29,5 +65,62 @@ pub fn check(sheet: &[u8]) -> Checked
             negations: x.negations,
         },
         Opened::Refused(number, place) => Checked::Refused { number, place },
+    }
+}
+
+// The sheet, opened for a guess: refusals 1 to 7, then 8.
+fn open_for(sheet: &[u8], guess: u16) -> Opened
+    ensures { λ r. ⌜ r ≡ openedOf (openedFor (now (sheet .entry)) guess) ⌝ }
+{
+    let opened = open(sheet);
+    let Opened::Accepted(x) = opened else {
+        return opened;
+    };
+    if power(x.negations as u16) <= guess {
+        return Opened::Refused(8, 0);
+    }
+    opened
+}
+
+// The verdict on a guess: refusals 1 to 8.
+pub fn verdict(sheet: &[u8], guess: u16) -> Judged
+    ensures { λ r. ⌜ judged r ≡ verdictCall (now (sheet .entry)) guess ⌝ }
+{
+    match open_for(sheet, guess) {
+        Opened::Accepted(x) => {
+            let mut room = [0u16; 32768];
+            match verdict_on(sheet, x, guess, &mut room[..]) {
+                Verdict::Empty => Judged::Empty,
+                Verdict::Other(found) => Judged::Other { found },
+                Verdict::Verified(known, possible, sets) => Judged::Verified {
+                    known,
+                    possible,
+                    sets,
+                },
+            }
+        }
+        Opened::Refused(number, place) => Judged::Refused { number, place },
+    }
+}
+
+// The belief sets of a guess, by rising number, into a lent buffer: refusals 1 to 8, then 9.
+pub fn belief_sets(sheet: &[u8], guess: u16, out: &mut [u16]) -> Counted
+    ensures { λ r. ⌜ counted r ≡ withCount (beliefSetsCall (now (sheet .entry)) guess (length (now (out .entry)))) ⌝ }
+    ensures { λ r. ⌜ now (out .exit) ≡ afterwards (λ w. w) (beliefSetsCall (now (sheet .entry)) guess (length (now (out .entry)))) (now (out .entry)) ⌝ }
+{
+    match open_for(sheet, guess) {
+        Opened::Accepted(x) => {
+            let mut room = [0u16; 32768];
+            let n = gather(sheet, x, guess, &mut room[..]);
+            if out.len() < n {
+                return Counted::Refused {
+                    number: 9,
+                    place: n,
+                };
+            }
+            write(&room[..], n, &mut out[..]);
+            Counted::Accepted { count: n }
+        }
+        Opened::Refused(number, place) => Counted::Refused { number, place },
     }
 }

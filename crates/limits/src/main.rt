@@ -1,15 +1,11 @@
-// Limit cases of the check. Standard input holds cases: one byte, the length of a title, and the title; two bytes, the length of a sheet,
-// low byte first, and the sheet. For each case a line has the title and what `engine::check` answers for the sheet.
+// Limit cases of the check. A case has a title and a sheet (crate `cases`). For each a line has the title and what `engine::check` answers
+// for the sheet.
+use cases::find;
+use cases::print;
 use engine::Checked;
 use engine::check;
 ghost use Prim.Native.Nat.{_<_, _≤_};
 ghost use lib.ListN.{length};
-
-// A space and a number.
-fn print(n: usize) {
-    io::write_all(1, b" ");
-    io::print_decimal(1, n as u64);
-}
 
 fn answer(sheet: &[u8]) {
     match check(sheet) {
@@ -38,31 +34,25 @@ fn line(title: &[u8], sheet: &[u8]) {
 }
 
 // The line of the case at a place, and the place after the case; the end where the case is cut off.
-fn case(cases: &[u8], at: usize) -> usize
-    requires { ⌜ at < length (now cases) ⌝ }
-    ensures { λ r. ⌜ (at < r) × (r ≤ length (now (cases .entry))) ⌝ }
+fn case(input: &[u8], at: usize) -> usize
+    requires { ⌜ at < length (now input) ⌝ }
+    ensures { λ r. ⌜ (at < r) × (r ≤ length (now (input .entry))) ⌝ }
 {
-    let n = cases.len();
-    let title = at + 1;
-    let t = cases[at] as usize;
-    if n - title < t + 2 {
-        return n;
+    let c = find(input, at, 0);
+    if c.whole {
+        let title = c.title;
+        let title_end = c.title_end;
+        let sheet = c.sheet;
+        let sheet_end = c.sheet_end;
+        line(&input[title..title_end], &input[sheet..sheet_end]);
     }
-    let sheet_length = title + t;
-    let m = cases[sheet_length] as usize + 256 * (cases[sheet_length + 1] as usize);
-    let sheet = sheet_length + 2;
-    if n - sheet < m {
-        return n;
-    }
-    let next = sheet + m;
-    line(&cases[title..sheet_length], &cases[sheet..next]);
-    next
+    c.next
 }
 
-fn all(cases: &[u8]) {
+fn all(input: &[u8]) {
     let mut at = 0;
-    while at < cases.len() {
-        at = case(cases, at);
+    while at < input.len() {
+        at = case(input, at);
     }
 }
 

@@ -1,16 +1,16 @@
 -- `engine::check` meets its contract. Assumes nothing.
 use borrow.Author.Needs.{needs}
 use lib.ListN.{length}
-use mathlib.Core.Path.{_≡_, sym, _∙_}
-use native.Mathlib.Omega.{arith}
+use mathlib.Core.Path.{_≡_, sym, ap, _∙_}
 use Prim.Native.Nat.{ℕ}
-use Rattle.semantics.specs.Definitions.Reading.{Reading, field, refused}
+use Rattle.semantics.specs.Definitions.Reading.{Reading}
 use Rattle.semantics.specs.Definitions.Sheet.{Sheet, atoms}
 use Rattle.semantics.specs.Definitions.Setting.{k}
-use Rattle.semantics.specs.Definitions.Check.{setting, opened, Returned, accepted, refusal, returned, Numbers, check}
+use Rattle.semantics.specs.Definitions.Check.{setting, opened, Numbers, check}
+use Rattle.semantics.specs.Definitions.Returned.{Returned, accepted, refusal, returned}
 use Rattle.sheet.specs.declared.Contents.{Contents}
 use Rattle.sheet.specs.declared.Opened.the-variants.{Accepted, Refused}
-use Rattle.sheet.specs.Opened.{contents, openedOf}
+use Rattle.sheet.specs.Opened.{openedOf, opened-as, opened-refused}
 use Rattle.engine.proofs.check.Statement.{statement}
 use Rattle.engine.proofs.check.Tie as tie
 
@@ -19,16 +19,14 @@ abbrev of : Reading Sheet → Returned Numbers
 of r = returned r (λ x. accepted (record { atoms = atoms x; rules = length (x .rules); negations = k (setting x) }))
 
 -- the same from what opening the sheet answers
-opened-accepted : (r : Reading Sheet) {x : Contents} → openedOf r ≡ Accepted x
+of-accepted : (r : Reading Sheet) {x : Contents} → openedOf r ≡ Accepted x
     → accepted (record { atoms = x .atoms; rules = x .rules; negations = x .negations }) ≡ of r
-opened-accepted (field y end) {x} e =
-    let same : x ≡ contents y = cc in
-    rw same
-opened-accepted (refused number place) e = let z : _≡_ {A = ℕ} 0 1 = cc in absurd (omega arith)
+of-accepted r e =
+    let (y, end, d, same) = opened-as r e in
+    ap (λ x. accepted (record { atoms = x .atoms; rules = x .rules; negations = x .negations })) same ∙ sym (ap of d)
 
-opened-refused : (r : Reading Sheet) {number place : ℕ} → openedOf r ≡ Refused number place → refusal number place ≡ of r
-opened-refused (field x end) e = let z : _≡_ {A = ℕ} 0 1 = cc in absurd (omega arith)
-opened-refused (refused number place) e = cc
+of-refused : (r : Reading Sheet) {number place : ℕ} → openedOf r ≡ Refused number place → refusal number place ≡ of r
+of-refused r e = sym (ap of (opened-refused r e))
 
 open-requires : tie.Need-open-requires
 open-requires c κs = search needs
@@ -42,13 +40,13 @@ enum-known-number c = search needs
 returns : tie.Need-returns
 unfolding check
 returns c =
-    opened-accepted (opened (c .before .before .before .before .before .args .sheet .now))
+    of-accepted (opened (c .before .before .before .before .before .args .sheet .now))
     (sym (c .before .before .before .«open» .ensures) ∙ c .before .x .given .1)
 
 returns-2 : tie.Need-returns-2
 unfolding check
 returns-2 c =
-    opened-refused (opened (c .before .before .before .before .before .args .sheet .now))
+    of-refused (opened (c .before .before .before .before .before .args .sheet .now))
     (sym (c .before .before .before .«open» .ensures) ∙ c .before .number .given .1)
 
 pub check-spec : {M : Type 1} → statement M

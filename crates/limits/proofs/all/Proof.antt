@@ -7,10 +7,10 @@ use Rattle.limits.proofs.all.Statement.{statement}
 use Rattle.limits.proofs.all.Tie as tie
 
 abbrev Inv-loop : tie.InvT-loop
-Inv-loop cases at₀ at = Unit {0}
+Inv-loop input at₀ at = Unit {0}
 
 abbrev μ-loop : tie.MeasureT-loop
-μ-loop cases at₀ at = length cases - at
+μ-loop input at₀ at = length input - at
 
 loop-holds : tie.Need-loop-holds Inv-loop μ-loop
 loop-holds c = tt

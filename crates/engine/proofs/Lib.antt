@@ -1,0 +1,2 @@
+-- What the proofs of the calls cite.
+pub mod Laws

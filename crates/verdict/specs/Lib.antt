@@ -1,0 +1,2 @@
+-- What the answers of the code mean.
+pub mod Verdicts

@@ -1,0 +1,58 @@
+// The walks: over all sets of atoms for the stable ones, and over these for known and for possible.
+use sets::power;
+use stable::stable;
+ghost use mathlib.Core.Path.{_≡_};
+ghost use Prim.Native.Nat.{_*_, _^_, _≤_};
+ghost use lib.ListN.{length, take};
+ghost use Rattle.sets.specs.Sets.{⋂, ⋃};
+ghost use Rattle.semantics.specs.Words.{programIn};
+ghost use Rattle.semantics.specs.Definitions.Sheet.{mostAtoms, mostRules};
+ghost use Rattle.semantics.specs.Definitions.Stable.{stableSets};
+
+// Writes the stable sets of a program, by rising number, and says how many they are.
+pub fn stable_sets(program: &[u16], rules: usize, atoms: usize, out: &mut [u16]) -> usize
+    requires { ⌜ (4 * rules ≤ length (now program)) × (rules ≤ mostRules) × (atoms ≤ mostAtoms) × (2 ^ atoms ≤ length (now out)) ⌝ }
+    ensures { λ r. ⌜ length (now (out .exit)) ≡ length (now (out .entry)) ⌝ }
+    ensures { λ r. ⌜ r ≤ 2 ^ atoms ⌝ }
+    ensures { λ r. ⌜ take r (now (out .exit)) ≡ stableSets atoms (programIn (now (program .entry)) rules) ⌝ }
+{
+    let end = power(atoms as u16);
+    let mut n = 0;
+    let mut i = 0;
+    while i < end {
+        if stable(program, rules, i) {
+            out[n] = i;
+            n += 1;
+        }
+        i += 1;
+    }
+    n
+}
+
+// Known: the atoms that are in each of the first n sets.
+pub fn known_in(sets: &[u16], n: usize, atoms: usize) -> u16
+    requires { ⌜ (n ≤ length (now sets)) × (atoms ≤ mostAtoms) ⌝ }
+    ensures { λ r. ⌜ r ≡ ⋂ atoms (take n (now (sets .entry))) ⌝ }
+{
+    let mut all = power(atoms as u16) - 1;
+    let mut i = 0;
+    while i < n {
+        all = all & sets[i];
+        i += 1;
+    }
+    all
+}
+
+// Possible: the atoms that are in some of the first n sets.
+pub fn possible_in(sets: &[u16], n: usize) -> u16
+    requires { ⌜ n ≤ length (now sets) ⌝ }
+    ensures { λ r. ⌜ r ≡ ⋃ (take n (now (sets .entry))) ⌝ }
+{
+    let mut any = 0;
+    let mut i = 0;
+    while i < n {
+        any = any | sets[i];
+        i += 1;
+    }
+    any
+}

@@ -1,0 +1,71 @@
+"""The check of a sheet, written from document 01: refusals 1 to 7."""
+
+
+def answer(sheet):
+    """[refusal, place], or [0, atoms, rules, negations] of an accepted sheet."""
+    length = len(sheet)
+    too_short = [1, length]
+    place = 0
+
+    if length < 1:
+        return too_short
+    atoms = sheet[0]
+    if atoms > 15:
+        return [2, 0]
+    place = 1
+
+    names = []
+    for _ in range(atoms):
+        start = place
+        if length < start + 1:
+            return too_short
+        size = sheet[start]
+        if size < 1 or size > 12:
+            return [3, start]
+        if length < start + 1 + size:
+            return too_short
+        for i in range(size):
+            good = b"abcdefghijklmnopqrstuvwxyz"
+            if i > 0:
+                good += b"0123456789_"
+            if sheet[start + 1 + i] not in good:
+                return [3, start + 1 + i]
+        name = sheet[start + 1:start + 1 + size]
+        if name in names:
+            return [4, start]
+        names.append(name)
+        place = start + 1 + size
+
+    if length < place + 1:
+        return too_short
+    rules = sheet[place]
+    if rules > 64:
+        return [2, place]
+    place += 1
+
+    read = []
+    for _ in range(rules):
+        if length < place + 16:
+            return too_short
+        masks = []
+        for m in range(8):
+            mask = sheet[place + 2 * m] + 256 * sheet[place + 2 * m + 1]
+            if mask >= 2 ** atoms:
+                return [5, place + 2 * m]
+            masks.append(mask)
+        read.append(masks)
+        place += 16
+
+    if length > place:
+        return [6, place]
+
+    negations = 0
+    for atom in range(atoms):
+        bit = 2 ** atom
+        if any(masks[4] & bit or masks[5] & bit for masks in read):
+            negations += 1
+        if any(masks[6] & bit or masks[7] & bit for masks in read):
+            negations += 1
+    if negations > 12:
+        return [7, 0]
+    return [0, atoms, rules, negations]

@@ -1,0 +1,379 @@
+#!/usr/bin/env python3
+"""Cases of the calls `verdict` and `belief_sets`: makes crates/verdicts/stdin and stdout.
+
+A case has a title, a sheet and three fields (files.py): the first guess, the number
+of guesses, and the number of words of the lent buffer. For each guess in turn a line
+of the expected output: TITLE GUESS: VERDICT; COUNT; BUFFER.
+
+VERDICT is `empty`, `other FOUND`, `verified KNOWN POSSIBLE SETS` or `refused NUMBER
+PLACE`; COUNT is the number of belief sets, or `refused NUMBER PLACE`. BUFFER is every
+word of the buffer after the call, or a digest of more than 24 words, or `-`. Before
+the call word i is 60000 + i mod 1000.
+
+The answers are those of solver.py. Numbers that document 01 states are asserted.
+With --check the files are only compared.
+"""
+
+from itertools import combinations, groupby
+
+from files import case_bytes, write_or_compare
+from reader import answer
+from sheets import HEAD, K, LONGEST, M, NOT, NOTHING, NOT_K, NOT_M, NOT_NOT, cut, letters, make, put, rule, sheet
+from solver import (DELETED, REDUCT, REMOVED, belief_set_numbers, belief_sets, belief_sets_call, guess_count, members,
+                    negations, opened, reduct, stable_by_parts, verdict, verdict_by, verdict_call, world_views)
+
+MOST_WORDS = 32770  # of the program's buffer
+ALL_PRINTED = 24
+
+CASES = []
+
+
+def case(title, data, first, count, words):
+    CASES.append((title, data, first, count, words))
+
+
+def every(title, data):
+    """Every guess and the first one out of range, with at least two words more than sets."""
+    count = guess_count(data)
+    most = max(len(belief_sets(data, guess)) for guess in range(count))
+    case(title, data, 0, count + 1, most + 2)
+
+
+def exactly(title, data, first, count):
+    """These guesses with as many words as sets, and with one word less where there is a set."""
+    for size, run in groupby(range(first, first + count), lambda guess: len(belief_sets(data, guess))):
+        run = list(run)
+        case(f"{title}, {size} words", data, run[0], len(run), size)
+        if size > 0:
+            case(f"{title}, one word short", data, run[0], len(run), size - 1)
+
+
+def both(title, data):
+    every(title, data)
+    exactly(title, data, 0, guess_count(data))
+
+
+def choices(atoms):
+    """The choice rule of each atom."""
+    return [f"{atom} <- not not {atom}" for atom in atoms]
+
+
+# The sheets with known lists by their numbers: views as (guess, known, possible, sets).
+
+KNOWN = {
+    1: (bytes([0, 0]), [(0, 0, 0, 1)]),
+    2: (sheet("a", "a <- K a"), [(1, 0, 0, 1)]),
+    3: (sheet("a", "a <- not K a"), []),
+    4: (sheet("a", "a <- M a"), [(1, 1, 1, 1)]),
+    5: (sheet("a", "a <- not M a"), []),
+    6: (sheet("a b", "a <- not K b", "b <- not K a"), [(1, 2, 2, 1), (2, 1, 1, 1)]),
+    7: (sheet("a", "a <- not not a"), [(0, 0, 1, 2)]),
+    8: (sheet("a b", "a | b"), [(0, 0, 3, 2)]),
+    9: (sheet("a", "a", "<- a"), []),
+    10: (sheet("a b c", "c <- M a", "a <- b", "b <- a"), [(0, 0, 0, 1)]),
+}
+for number, (data, views) in KNOWN.items():
+    assert world_views(data) == views, (number, world_views(data))
+    both(f"known sheet {number}", data)
+
+# The kiln example of document 01.
+KILN = sheet("glaze bisque", "glaze | bisque", "<- not K glaze")
+assert KILN[-16:] == bytes(10) + bytes([1]) + bytes(5)
+assert world_views(KILN) == [(0, 1, 1, 1)]
+both("kiln", KILN)
+
+# The errors that document 01 names.
+assert verdict(KNOWN[2][0], 0) == ("other", 1)
+case("truth in place of K a", KNOWN[2][0], 0, 1, 2)
+case("truth in place of K a, with b", sheet("a b", "a | b <- K a", "b <- not not b"), 0, 2, 4)
+case("empty W taken as verified", KNOWN[3][0], 0, 1, 1)
+case("empty W taken as verified, not M", KNOWN[5][0], 0, 1, 1)
+case("empty W taken as verified, no negations", KNOWN[9][0], 0, 1, 1)
+case("empty W taken as verified, K and M", sheet("a", "<-", "a <- K a, M a"), 0, 4, 1)
+case("not not a read as a", KNOWN[7][0], 0, 1, 3)
+case("not not a read as a, from M", KNOWN[4][0], 0, 1, 3)
+case("pruning equal sizes", KNOWN[6][0], 1, 2, 2)
+
+# The rows of the reduct's table.
+for kind in ("K", "not K", "M", "not M"):
+    both(f"{kind} a, a or c", sheet("a b c", f"b <- {kind} a", "a | c"))
+    both(f"{kind} a, fact a", sheet("a b", f"b <- {kind} a", "a"))
+    both(f"{kind} a, a without rule", sheet("a b", f"b <- {kind} a"))
+    every(f"{kind} a, choice of a", sheet("a b", f"b <- {kind} a", *choices("a")))
+    every(f"{kind} a, a from b", sheet("a b", f"b <- {kind} a", "a <- b"))
+    every(f"{kind} a, a from not b", sheet("a b", f"b <- {kind} a", "a <- not b"))
+    every(f"{kind} a, a or b from it", sheet("a b", f"a | b <- {kind} a"))
+    every(f"{kind} a in a constraint", sheet("a b", f"<- {kind} a", "a | b"))
+    every(f"{kind} a and {kind} b, choice of a", sheet("a b c", f"b <- {kind} a", f"c <- {kind} b", *choices("a")))
+
+every("a from K a, constraint on not a", sheet("a", "a <- K a", "<- not a"))
+every("a from M a, constraint on not a", sheet("a", "a <- M a", "<- not a"))
+
+# The order of negations.
+both("K a and M a, fact a", sheet("a b c", "b <- K a", "c <- M a", "a"))
+both("K a and M a, a without rule", sheet("a b c", "b <- K a", "c <- M a"))
+both("not M a and not K a, a or d", sheet("a b c d", "c <- not M a", "b <- not K a", "a | d"))
+both("M a and K b, fact a", sheet("a b c", "c <- M a, K b", "a"))
+both("K b and M a, fact b", sheet("a b c", "c <- K b", "c <- M a", "b"))
+every("M c in the first rule, K a in the last", sheet("a b c", "b <- M c", "c <- not not c", "b <- K a"))
+every("K and M of two atoms", sheet("a b c", "c <- K a, M b", "c <- M a, not K b", "a", "b <- not not b"))
+every("not K a, M b, not K c and M d, other atoms between",
+      sheet("e a f b g c h d", "e <- not K a", "f <- M b", "g <- not K c", "h <- M d", "b", "c", "d <- not not e"))
+every("seven negations of four atoms",
+      sheet("a b c d", "a <- not K b", "b <- not K a, M a", "c <- M b, not M d", "d <- not K c, not a",
+            "a | d <- K b, not M c"))
+
+# Guesses that differ from the one found in one negation, and in all.
+every("three choices, constraint on K", sheet("a b c", *choices("abc"), "<- K a, K b, K c"))
+every("three choices, constraint on not M", sheet("a b c", *choices("abc"), "<- not M a, not M b, not M c"))
+every("cycles of K and of M", sheet("a b", "a <- K a", "b <- K b", "a <- M b", "b <- M a"))
+every("cycle of K", sheet("a b", "a <- K b", "b <- K a"))
+every("cycle of M", sheet("a b", "a <- M b", "b <- M a"))
+every("cycle of not M", sheet("a b", "a <- not M b", "b <- not M a"))
+
+# Stable models.
+both("no atoms, an empty rule", make([], [NOTHING]))
+both("atoms and no rules", make(letters(3)))
+both("an empty rule among others", sheet("a", "a", "<-"))
+both("cycle of not not", sheet("a b", "a <- not not b", "b <- not not a"))
+both("not not a, b plain", sheet("a b", "a <- not not a, b", "b <- not not b"))
+both("not not in a disjunction", sheet("a b", "a | b <- not not a"))
+both("not not of both head atoms", sheet("a b", "a | b <- not not a, not not b"))
+both("not not and not of one atom", sheet("a b", "b <- not a, not not a", "a <- not not a"))
+both("even cycle of not", sheet("a b", "a <- not b", "b <- not a"))
+both("odd cycle of not", sheet("a b c", "a <- not b", "b <- not c", "c <- not a"))
+both("odd cycle of not, a also from not b", sheet("a b", "a <- not a", "a <- not b", "b <- not not b"))
+both("positive cycle", sheet("a b c", "a <- b", "b <- c", "c <- a"))
+both("disjunction of three", sheet("a b c", "a | b | c"))
+both("disjunction and a positive cycle", sheet("a b", "a | b", "a <- b", "b <- a"))
+both("disjunctions of each two of three", sheet("a b c", "a | b", "a | c", "b | c"))
+both("disjunction of a and b, a from b", sheet("a b", "a | b", "a <- b"))
+both("head atom in the body", sheet("a b", "a | b <- b", "b <- not not b"))
+both("disjunction of three, a positive cycle and a constraint on not a",
+     sheet("a b c", "a | b | c", "a <- b", "b <- c", "c <- a", "<- not a"))
+both("constraint on not", sheet("a b", *choices("ab"), "<- not a, not b"))
+both("constraint on plain", sheet("a b", *choices("ab"), "<- a, b"))
+both("constraint on not not", sheet("a b", *choices("ab"), "<- not not a, not b"))
+both("constraints on both atoms of a disjunction", sheet("a b", "a | b", "<- a", "<- b"))
+both("model that is not minimal", sheet("a b", "a", "b <- b"))
+both("a from not a", sheet("a", "a <- not a"))
+both("fact a, a from not a", sheet("a", "a", "a <- not a"))
+
+# Repeated rules, an atom in several masks.
+both("repeated disjunction", sheet("a b", *["a | b"] * 3))
+both("repeated choice rule", sheet("a", *choices("aaaaa")))
+both("repeated not K", sheet("a b", *["b <- not K a"] * 3, "a <- not not a"))
+both("K a and not K a in one rule", sheet("a b c", "b <- K a, not K a", "a | c"))
+both("K a and not K a in two rules", sheet("a b c", "b <- K a", "c <- not K a", "a <- not not a"))
+both("M a and not M a in one rule", sheet("a b c", "b <- M a, not M a", "a | c"))
+both("M a and not M a in two rules", sheet("a b c", "b <- M a", "c <- not M a", "a <- not not a"))
+every("K, not K, M and not M of a in one rule", sheet("a b", "b <- K a, not K a, M a, not M a", "a <- not not a"))
+every("K, not K, M and not M of a in four rules",
+      sheet("a b c d e", "b <- K a", "c <- not K a", "d <- M a", "e <- not M a", "a <- not not a"))
+every("a in all eight masks", sheet("a", "a <- a, not a, not not a, K a, not K a, M a, not M a", "a <- not not a"))
+every("a and K a in one body", sheet("a b", "b <- a, K a", "a <- not not a"))
+every("a and not K a in one body", sheet("a b", "b <- a, not K a", "a <- not not a"))
+every("not a and M a in one body", sheet("a b", "b <- not a, M a", "a <- not not a"))
+every("not not a and not M a in one body", sheet("a b", "b <- not not a, not M a", "a <- not not a"))
+every("a in the head, K a in the body", sheet("a b", "a | b <- K a, not b", "b <- M a"))
+
+# Buffers.
+FOUR_SETS = sheet("a b c", "a <- not not a", "b | c", "<- K c")  # at guess 1
+FIVE = sheet("a b c d e", *choices("abcde"))
+FIVE_CONSTRAINED = sheet("a b c d e", *choices("abcde"), "<- not d, not e")
+for words in (0, 1, 3, 4, 5, 23, 24, 25, 1001, 32770):
+    case(f"buffer of {words}", FOUR_SETS, 0, 3, words)
+for words in (0, 1, 25, 32770):
+    case(f"no sets, buffer of {words}", sheet("a", "a <- not K a", "<- a"), 0, 3, words)
+    case(f"one set, buffer of {words}", sheet("a b", "b", "a <- K a"), 0, 3, words)
+case("32 sets in 32 words", FIVE, 0, 1, 32)
+case("32 sets in 31 words", FIVE, 0, 1, 31)
+case("24 sets in 24 words", FIVE_CONSTRAINED, 0, 1, 24)
+case("24 sets in 23 words", FIVE_CONSTRAINED, 0, 1, 23)
+
+# Choices: every set of atoms is stable.
+CHOICES = {n: sheet(" ".join(letters(n)), *choices(letters(n))) for n in (8, 14, 15)}
+for n, data in CHOICES.items():
+    assert belief_set_numbers(data, 0) == list(range(2 ** n))
+for words in (255, 256, 257):
+    case(f"8 choices, {words} words", CHOICES[8], 0, 1, words)
+case("14 choices, 16385 words", CHOICES[14], 0, 1, 16385)
+for words in (32767, 32768, 32769):
+    case(f"15 choices, {words} words", CHOICES[15], 0, 1, words)
+case("15 choices, guess out of range, one word short", CHOICES[15], 1, 1, 32767)
+
+# Limits of atoms, negations and rules.
+ATOMS = letters(15)
+case("15 atoms, no rules", make(ATOMS), 0, 2, 2)
+case("15 facts", sheet(" ".join(ATOMS), *ATOMS), 0, 2, 2)
+case("disjunction of 15", sheet(" ".join(ATOMS), " | ".join(ATOMS)), 0, 2, 16)
+case("disjunction of 15, one word short", sheet(" ".join(ATOMS), " | ".join(ATOMS)), 0, 2, 14)
+case("atom 14 under K and not M", sheet(" ".join(ATOMS), "a <- K o", "b <- not M o", "a | o"), 0, 5, 3)
+assert verdict(LONGEST, 1365) == ("verified", 0, 0, 1)  # "not K" of six atoms, "M" of none
+case("longest sheet", LONGEST, 1364, 3, 1)
+case("longest sheet, one word short", LONGEST, 1365, 1, 0)
+case("longest sheet, last guess and one out of range", LONGEST, 4095, 2, 2)
+case("15 atoms, 64 rules",
+     make(ATOMS, [rule({HEAD: 2 ** (i % 15), NOT: 2 ** ((i * i + i // 15 + 1) % 15), NOT_NOT: 2 ** (i % 3)})
+                  for i in range(64)]), 0, 2, 20)
+every("not K a in rule 63", sheet("a b", *["a <- a"] * 63, "b <- not K a"))
+
+# Guess 1 deletes rules 0, 2, ..., 62. The facts are all pairs of nine atoms but four: W has five sets, and other sets
+# without any one of them.
+PAIRS = [one + other for one, other in combinations("bcdefghij", 2) if one + other not in ("bc", "de", "fg", "hi")]
+every("32 rules with K a and 32 facts in turn",
+      sheet("a b c d e f g h i j", *(text for one, other in PAIRS for text in (f"{one} <- K a", f"{one} | {other}"))))
+
+# Twelve negations: of six atoms, and of twelve.
+SIX = sheet("a b c d e f", "a <- not K b", "b <- not K a", "c <- M a, not M d", "d <- M b, not K e", "e | f <- not M c",
+            "e <- K f", "f <- not not f, M e", "<- K c, K d", "a <- not M f, not not b", "b <- M f, K d")
+TWELVE = make(letters(12), [rule({HEAD: 2 ** i, NOT_K: 2 ** (i ^ 1)}) for i in range(12)])
+TWELVE_M = make(letters(12), [rule({HEAD: 2 ** i, NOT_NOT: 2 ** i}) for i in range(4)]
+                + [rule({HEAD: 2 ** (i + 4), (M, NOT_M)[i % 2]: 2 ** i, NOT: 2 ** (11 - i)}) for i in range(8)]
+                + [rule({HEAD: 16 + 32, M: 2 ** i}) for i in range(8, 12)])
+for title, data, verified in (("12 negations of 6 atoms", SIX, (1382, 3993)),
+                              ("12 not K of 12 atoms", TWELVE, (1365, 2730)),
+                              ("12 M of 12 atoms", TWELVE_M, (3455,))):
+    assert guess_count(data) == 4096
+    assert all(verdict(data, guess)[0] == "verified" for guess in verified)
+    for guess in sorted({0, 1, 5, 2047, 2048, 3000, *verified}):
+        case(title, data, guess, 1, len(belief_sets(data, guess)) + 1)
+    case(f"{title}, last guesses and one out of range", data, 4094, 3, 300)
+    case(f"{title}, guess 65535", data, 65535, 1, 3)
+
+
+# Random sheets, the same at every run.
+
+class Random:
+    def __init__(self, seed):
+        self.state = seed
+
+    def below(self, limit):
+        self.state = (self.state * 1103515245 + 12345) % 2 ** 31
+        return (self.state >> 12) % limit
+
+    def mask(self, atoms, percent):
+        return sum(2 ** i for i in range(atoms) if self.below(100) < percent)
+
+
+def random_sheet(random, atoms, rules, head, objective, subjective):
+    """The last three: how often an atom is in such a mask, in percent. Only the first 9 rules have masks 4 to 7."""
+    percents = [head] + [objective] * 3 + [subjective] * 4
+    return make(letters(atoms), [
+        rule({m: random.mask(atoms, percent) for m, percent in enumerate(percents[:8 if i < 9 else 4])})
+        for i in range(rules)])
+
+
+def varied(data, most, least):
+    """One to `most` negations, "verified" and another verdict, at least `least` different W."""
+    numbers = answer(data)
+    if numbers[0] != 0 or not 1 <= numbers[3] <= most:
+        return False
+    verdicts = {verdict(data, guess)[0] for guess in range(guess_count(data))}
+    found = {frozenset(belief_sets(data, guess)) for guess in range(guess_count(data))}
+    return "verified" in verdicts and len(verdicts) > 1 and len(found) >= least
+
+
+def varied_sheets(seed, count, most, least, *sizes):
+    random = Random(seed)
+    found = []
+    while len(found) < count:
+        data = random_sheet(random, *sizes)
+        if varied(data, most, least):
+            found.append(data)
+    return found
+
+
+for sizes in ((3, 4, 45, 12, 12), (4, 6, 35, 12, 6), (5, 8, 30, 12, 4), (6, 9, 28, 10, 3)):
+    for turn, data in enumerate(varied_sheets(1000 + sizes[0], 6, 4, 3, *sizes), 1):
+        every(f"random {turn}, {sizes[0]} atoms", data)
+        if turn <= 3:
+            exactly(f"random {turn}, {sizes[0]} atoms", data, turn % guess_count(data), 1)
+for turn, data in enumerate(varied_sheets(77, 2, 3, 2, 10, 24, 30, 12, 1), 1):
+    every(f"random {turn}, 10 atoms, 24 rules", data)
+every("random, 8 atoms, 64 rules", varied_sheets(78, 1, 4, 2, 8, 64, 40, 22, 2)[0])
+every("random, 5 atoms, 64 rules", varied_sheets(79, 1, 5, 2, 5, 64, 50, 30, 3)[0])
+
+# Disjunctions over ten atoms.
+every("five disjunctions of two, 10 atoms",
+      sheet("a b c d e f g h i j", "a | b", "c | d", "e | f", "g | h", "i | j", "a | c | e <- b, d", "<- K a, g",
+            "j <- M h, not a"))
+every("disjunction of ten", sheet("a b c d e f g h i j", "a | b | c | d | e | f | g | h | i | j",
+                                  "a <- b, not K b", "b <- a, not K a", "c <- d", "d <- e", "e <- c",
+                                  "f | g <- not not h", "h | i | j <- not g"))
+
+# Refused: the sheet is checked first, then the guess, then the buffer.
+GOOD = sheet("a b", "a | b", "a <- K b")
+BAD = [
+    (1, b""), (1, bytes([0])), (1, cut(GOOD, len(GOOD) - 1)), (1, cut(GOOD, 4)),
+    (2, bytes([16])), (2, bytes([0, 65])), (2, put(GOOD, 5, 65)),
+    (3, put(GOOD, 1, 0)), (3, put(GOOD, 3, 13)), (3, put(GOOD, 2, 65)),
+    (4, sheet("a b", "a").replace(b"b", b"a")),
+    (5, put(GOOD, 6, 4)), (5, put(GOOD, len(GOOD) - 1, 128)),
+    (6, GOOD + bytes([0])), (6, bytes([0, 0, 0])),
+    (7, make(letters(13), [rule({K: 8191})])), (7, make(letters(7), [rule({HEAD: 1, NOT_K: 127, M: 63})])),
+]
+for turn, (number, data) in enumerate(BAD):
+    assert answer(data)[0] == number, turn
+    case(f"bad sheet {turn}, refusal {number}", data, 0, 2, 3)
+    case(f"bad sheet {turn}, guess out of range, one word", data, 65535, 1, 1)
+    case(f"bad sheet {turn}, guess out of range, empty buffer", data, 4096, 1, 0)
+case("bad sheet, long buffer", LONGEST + bytes([255]), 0, 1, 32770)
+case("guess out of range, long buffer", GOOD, 2, 1, 32770)
+for title, data, words in (("no negations", sheet("a b", "a | b"), 2), ("one negation", GOOD, 2),
+                           ("four sets", FOUR_SETS, 4), ("empty W", sheet("a", "<- M a", "a"), 0)):
+    limit = guess_count(data)
+    for guess in sorted({limit, 2 * limit, 2 * limit + 1, 4095, 4096, 32768, 65535}):
+        case(f"{title}, guess out of range, enough words", data, guess, 1, words)
+        if words > 0:
+            case(f"{title}, guess out of range, too few words", data, guess, 1, words - 1)
+    case(f"{title}, last guess and one out of range, empty buffer", data, limit - 1, 2, 0)
+
+
+# Each cell of the reduct's table matters: with another action in it some small sheet has another verdict.
+
+def differs(data, table):
+    one = opened(data)
+    return any(verdict_by(one, guess, stable_by_parts(reduct(one.rules, members(negations(one), guess), table)))
+               != verdict(data, guess) for guess in range(guess_count(data)))
+
+
+def unnoticed():
+    """The cells, each with an action in it that no verdict shows."""
+    small = {data for _, data, _, _, _ in CASES
+             if answer(data)[0] == 0 and answer(data)[1] <= 3 and answer(data)[3] <= 4}
+    return [(cell, wrong) for cell, right in REDUCT.items() for wrong in ("plain", "not", "not not", REMOVED, DELETED)
+            if wrong != right and not any(differs(data, {**REDUCT, cell: wrong}) for data in small)]
+
+
+# Lines of output.
+
+def shown(buffer):
+    if not buffer:
+        return "-"
+    if len(buffer) <= ALL_PRINTED:
+        return " ".join(str(word) for word in buffer)
+    digest = 0
+    for word in buffer:
+        digest = (digest * 257 + word) % 65521
+    return f"digest {digest}"
+
+
+def lines(title, data, first, count, words):
+    for guess in range(first, first + count):
+        counted, buffer = belief_sets_call(data, guess, [60000 + i % 1000 for i in range(words)])
+        fields = (" ".join(str(field) for field in part) for part in (verdict_call(data, guess), counted))
+        yield f"{title} {guess}: " + "; ".join([*fields, shown(buffer)]) + "\n"
+
+
+def made():
+    """The bytes of each case and its lines of output."""
+    assert not unnoticed(), unnoticed()
+    assert all(words <= MOST_WORDS and count > 0 and first + count <= 65536 for _, _, first, count, words in CASES)
+    named = [(title, guess) for title, _, first, count, _ in CASES for guess in range(first, first + count)]
+    assert len(set(named)) == len(named), "two lines have one title and guess"
+    return [(case_bytes(*one), "".join(lines(*one))) for one in CASES]
+
+
+if __name__ == "__main__":
+    write_or_compare("verdicts", made)
