@@ -11,7 +11,7 @@ use Rattle.semantics.specs.Definitions.Check.{mostNegations, setting, opened}
 use Rattle.semantics.specs.Definitions.Returned.{Returned, accepted, refusal, returned, written, afterwards}
 use Rattle.semantics.specs.Definitions.Calls.{openedFor, verdictCall, limited, beliefSetsCall, withCount}
 use Rattle.semantics.specs.Theorems.Accepted.{accepted-read}
-use Rattle.semantics.specs.Theorems.Calls.{GuessOf, opened-for, refused-for, verdict-is, sets-given}
+use Rattle.semantics.specs.Theorems.Calls.{GuessOf, opened-for, guess-of, refused-for, verdict-is, sets-given}
 use Rattle.sheet.specs.declared.Contents.{Contents}
 use Rattle.sheet.specs.declared.Opened.the-variants.{Accepted, Refused}
 use Rattle.sheet.specs.Opened.{contents, openedOf, opened-as, opened-refused}
@@ -49,8 +49,7 @@ module _ (s : List ℕ) (g : ℕ) where
     says : (y : Sheet) × (end : ℕ) × (opened s ≡ field y end) × GuessOf s g (setting y) × (x ≡ contents y)
     says =
         let (y, end, d, same) = opened-as (openedFor s g) e in
-        let (a, b) = opened-for s g y end .0 d in
-        (y, end, a, record { says = y; end = end; accepts = a; means = refl; below = b }, same)
+        (y, end, opened-for s g y end .0 d .0, guess-of s g y end d, same)
 
     pub opened-too : openedOf (opened s) ≡ Accepted x
     opened-too =

@@ -1,4 +1,4 @@
--- Sheets whose lists are known, and limit cases of the reading, computed from their bytes.
+-- Sheets whose lists are known, limit cases of the reading, and verdicts and belief sets of guesses, computed from the bytes.
 pub mod Sheets
 pub mod Own
 pub mod Limits

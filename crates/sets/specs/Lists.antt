@@ -162,7 +162,7 @@ module _ {A : Type 0} where
   some-same f h [] e = refl
   some-same f h (x ∷ l) e = ap₂ _||_ (e x here) (some-same f h l (λ y m. e y (later m)))
 
-  -- two ways to keep members and to make something of them that agree, the first after c
+  -- c, then p and f, or q and h at once: the same where the tests agree, and f after c agrees with h on what is kept
   pub map-keep-map : {B C : Type 0} (p : B → Bool) (q : A → Bool) (f : B → C) (h : A → C) (c : A → B) (l : List A)
       → ((x : A) → x among l → (p (c x) ≡ q x) × (q x ≡ true → f (c x) ≡ h x)) → map f (keep p (map c l)) ≡ map h (keep q l)
   unfolding keep

@@ -27,11 +27,12 @@ pub ∈-∅ : {a : ℕ} → a ∈ ∅ → ⊥
 lowest : (x : ℕ) → 0 ∈ x ↔ (x % 2 ≡ 1)
 lowest x = (λ m. omega (arith, m .bit), λ e. record { bit = omega arith })
 
+-- a digit of x is one of x / 2
+digit-half : (a x : ℕ) → x / 2 ^ suc a % 2 ≡ x / 2 / 2 ^ a % 2
+digit-half a x = ap (λ z. x / 2 ^ z % 2) (omega arith) ∙ ap (λ z. z % 2) (sym (shr-shr x 1 a))
+
 halved : (a x : ℕ) → suc a ∈ x ↔ a ∈ x / 2
-halved a x = (λ m. record { bit = sym same ∙ m .bit }, λ m. record { bit = same ∙ m .bit })
-  where
-    same : x / 2 ^ suc a % 2 ≡ x / 2 / 2 ^ a % 2
-    same = ap (λ z. x / 2 ^ z % 2) (omega arith) ∙ ap (λ z. z % 2) (sym (shr-shr x 1 a))
+halved a x = (λ m. record { bit = sym (digit-half a x) ∙ m .bit }, λ m. record { bit = digit-half a x ∙ m .bit })
 
 pub some-member : (x : ℕ) → 0 < x → (a : ℕ) × (a ∈ x)
 some-member =
@@ -90,10 +91,8 @@ digit-∖ zero x y = ap (λ z. z % 2) (whole (x ∖ y)) ∙ minus-step x y .0 �
     whole : (z : ℕ) → z / 2 ^ 0 ≡ z
     whole z = omega arith
 digit-∖ (suc a) x y =
-    shifted (x ∖ y) ∙ ap (λ z. z / 2 ^ a % 2) (minus-step x y .1) ∙ digit-∖ a (x / 2) (y / 2) ∙ ap₂ _-_ (sym (shifted x)) (sym (shifted y))
-  where
-    shifted : (z : ℕ) → z / 2 ^ suc a % 2 ≡ z / 2 / 2 ^ a % 2
-    shifted z = ap (λ w. z / 2 ^ w % 2) (omega arith) ∙ ap (λ w. w % 2) (sym (shr-shr z 1 a))
+    digit-half a (x ∖ y) ∙ ap (λ z. z / 2 ^ a % 2) (minus-step x y .1) ∙ digit-∖ a (x / 2) (y / 2)
+    ∙ ap₂ _-_ (sym (digit-half a x)) (sym (digit-half a y))
 
 pub ∈-∖ : (a x y : ℕ) → a ∈ x ∖ y ↔ ((a ∈ x) × (a ∈ y → ⊥))
 ∈-∖ a x y = (

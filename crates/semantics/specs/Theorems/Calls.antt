@@ -21,7 +21,7 @@ use Rattle.semantics.specs.Definitions.Check.{setting, opened}
 use Rattle.semantics.specs.Definitions.Returned.{Returned, accepted, refusal, returned}
 use Rattle.semantics.specs.Definitions.Verdict.{beliefSets, knownIn, possibleIn, Verdict, verified, verdict, isVerified}
 use Rattle.semantics.specs.Definitions.Calls.{openedFor, verdictCall, limited, beliefSetsCall}
-use Rattle.semantics.specs.Theorems.Returned.{was-accepted, reading-refused}
+use Rattle.semantics.specs.Theorems.Returned.{was-accepted, was-refused, reading-refused}
 use Rattle.semantics.specs.Theorems.Reading.{then-field, require-field, field-same}
 use Rattle.semantics.specs.Theorems.Stable.{Stable, among-belief-sets, belief-sets-rising}
 use Rattle.semantics.specs.Theorems.Verdict.{Verifiable, known-is, belief-below, dec-verifiable, verified-verdict}
@@ -50,6 +50,23 @@ pub record Verified (s : Setting) (g known possible sets : ℕ) : Type 0 where
   pub possible-exactly : (a : ℕ) → a ∈ possible ↔ ((i : ℕ) × (i among beliefSets s g) × (a ∈ i))
   pub number : sets ≡ length (beliefSets s g)
 
+-- ---- sets into so many words
+module _ (words : ℕ) (v : List ℕ) where
+  limited-fits : {w : List ℕ} → limited words v ≡ accepted w → (v ≡ w) × (length v ≤ words)
+  limited-fits {w} = go (leb (length v) words) (leb-true (length v) words)
+    where
+      go : (b : Bool) → (b ≡ true → length v ≤ words) → cond b (accepted v) (refusal 9 (length v)) ≡ accepted w → (v ≡ w) × (length v ≤ words)
+      go true f e = (cc, f refl)
+      go false f e = let z : _≡_ {A = ℕ} 0 1 = cc in absurd (omega arith)
+
+  limited-short : {n p : ℕ} → limited words v ≡ refusal n p → (words < length v) × (n ≡ 9) × (p ≡ length v)
+  limited-short {n} {p} = go (leb (length v) words) (leb-false (length v) words)
+    where
+      go : (b : Bool) → (b ≡ false → words < length v) → cond b (accepted v) (refusal 9 (length v)) ≡ refusal n p
+          → (words < length v) × (n ≡ 9) × (p ≡ length v)
+      go true f e = let z : _≡_ {A = ℕ} 0 1 = cc in absurd (omega arith)
+      go false f e = (f refl, cc, cc)
+
 module _ (sheet : List ℕ) (g : ℕ) where
   pub opened-for : (x : Sheet) (end : ℕ) → openedFor sheet g ≡ field x end ↔ ((opened sheet ≡ field x end) × (g < 2 ^ k (setting x)))
   unfolding openedFor
@@ -59,6 +76,11 @@ module _ (sheet : List ℕ) (g : ℕ) where
         (d ∙ f, subst (λ z. g < 2 ^ k (setting z)) (sym (field-same f .0)) (ltb-true g (2 ^ k (setting y)) t)),
     λ p. rw (p .0, lt-ltb g (2 ^ k (setting x)) (p .1)),
   )
+
+  pub guess-of : (x : Sheet) (end : ℕ) → openedFor sheet g ≡ field x end → GuessOf sheet g (setting x)
+  guess-of x end d =
+      let (a, b) = opened-for x end .0 d in
+      record { says = x; end = end; accepts = a; means = refl; below = b }
 
   -- refused: the sheet is, or the guess is not below 2^k
   abbrev pub NotBelow : (number place : ℕ) → Type 0
@@ -88,8 +110,7 @@ module _ (sheet : List ℕ) (g : ℕ) where
       → (x : Sheet) × GuessOf sheet g (setting x) × (of x ≡ accepted values)
   returned-accepted {A} of values e =
       let (x, end, d, f) = was-accepted of (openedFor sheet g) e in
-      let (a, b) = opened-for x end .0 d in
-      (x, record { says = x; end = end; accepts = a; means = refl; below = b }, f)
+      (x, guess-of x end d, f)
 
   accepted-returns : {A : Type 0} (of : Sheet → Returned A) {s : Setting} (h : GuessOf sheet g s) → returned (openedFor sheet g) of ≡ of (h .says)
   accepted-returns of h = ap (λ r. returned r of) (opened-for (h .says) (h .end) .1 (h .accepts, subst (λ s. g < 2 ^ k s) (h .means) (h .below)))
@@ -143,12 +164,8 @@ module _ (sheet : List ℕ) (g : ℕ) where
   unfolding beliefSetsCall
   sets-say words w e =
       let (x, h, d) = returned-accepted _ w e in
-      let (f, t) = go (beliefSets (setting x) g) (leb (length (beliefSets (setting x) g)) words) d in
-      (setting x, h, sym f, subst (λ z. length z ≤ words) f (leb-true _ _ t))
-    where
-      go : (v : List ℕ) (b : Bool) → cond b (accepted v) (refusal 9 (length v)) ≡ accepted w → (v ≡ w) × (b ≡ true)
-      go v true d = (cc, refl)
-      go v false d = let z : _≡_ {A = ℕ} 0 1 = cc in absurd (omega arith)
+      let (f, l) = limited-fits words (beliefSets (setting x) g) d in
+      (setting x, h, sym f, subst (λ z. length z ≤ words) f l)
 
   pub sets-given : (words : ℕ) {s : Setting} → GuessOf sheet g s
       → beliefSetsCall sheet g words ≡ limited words (beliefSets s g)
@@ -159,31 +176,19 @@ module _ (sheet : List ℕ) (g : ℕ) where
   abbrev pub TooMany : (words number place : ℕ) → Type 0
   TooMany words number place = (s : Setting) × GuessOf sheet g s × (words < length (beliefSets s g)) × (number ≡ 9) × (place ≡ length (beliefSets s g))
 
-  sets-turned-back : (words : ℕ) {number place : ℕ} → openedFor sheet g ≡ refused number place → beliefSetsCall sheet g words ≡ refusal number place
-  unfolding beliefSetsCall
-  sets-turned-back words e = returned-refused _ e
-
   pub sets-refused : (words number place : ℕ) → beliefSetsCall sheet g words ≡ refusal number place
       ↔ ((openedFor sheet g ≡ refused number place) ⊎ TooMany words number place)
-  sets-refused words number place = (λ e. from (openedFor sheet g) refl e, ⊎-elim (sets-turned-back words) short)
+  unfolding beliefSetsCall
+  sets-refused words number place = (λ e. ⊎-elim inl (λ q. inr (too-many q)) (was-refused of (openedFor sheet g) e), ⊎-elim (returned-refused of) short)
     where
-      too-many : (w : List ℕ) (b : Bool) → leb (length w) words ≡ b → cond b (accepted w) (refusal 9 (length w)) ≡ refusal number place
-          → (words < length w) × (number ≡ 9) × (place ≡ length w)
-      too-many w true d e = let z : _≡_ {A = ℕ} 0 1 = cc in absurd (omega arith)
-      too-many w false d e = (leb-false (length w) words d, cc, cc)
+      of : Sheet → Returned (List ℕ)
+      of x = limited words (beliefSets (setting x) g)
 
-      same : {n p m q : ℕ} → _≡_ {A = Returned (List ℕ)} (refusal n p) (refusal m q) → _≡_ {A = Reading Sheet} (refused n p) (refused m q)
-      same c = cc
+      too-many : (x : Sheet) × (end : ℕ) × (openedFor sheet g ≡ field x end) × (of x ≡ refusal number place) → TooMany words number place
+      too-many q =
+          let (x, end, d, e) = q in
+          let (l, n, p) = limited-short words (beliefSets (setting x) g) e in
+          (setting x, guess-of x end d, l, n, p)
 
-      from : (r : Reading Sheet) → openedFor sheet g ≡ r → beliefSetsCall sheet g words ≡ refusal number place
-          → (openedFor sheet g ≡ refused number place) ⊎ TooMany words number place
-      from (field x end) d e =
-          let (a, b) = opened-for x end .0 d in
-          let h : GuessOf sheet g (setting x) = record { says = x; end = end; accepts = a; means = refl; below = b } in
-          let w = beliefSets (setting x) g in
-          let (l, n, p) = too-many w (leb (length w) words) refl (sym (sets-given words h) ∙ e) in
-          inr (setting x, h, l, n, p)
-      from (refused n p) d e = inl (d ∙ same (sym (sets-turned-back words d) ∙ e))
-
-      short : TooMany words number place → beliefSetsCall sheet g words ≡ refusal number place
+      short : TooMany words number place → returned (openedFor sheet g) of ≡ refusal number place
       short q = let (s, h, l, n, p) = q in sets-given words h ∙ rw (lt-leb (length (beliefSets s g)) words l, n, p)
