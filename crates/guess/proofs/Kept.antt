@@ -14,7 +14,7 @@ use Rattle.semantics.specs.Definitions.Guesses.{not-known, may-be, assumed}
 use Rattle.semantics.specs.Definitions.Reading.{field}
 use Rattle.semantics.specs.Definitions.Sheet.{Sheet, atoms, mostRules}
 use Rattle.semantics.specs.Definitions.Check.{setting, opened}
-use Rattle.semantics.specs.Words.{ruleIn, programIn}
+use Rattle.semantics.specs.Words.{ruleIn, programIn, program-more}
 use Rattle.semantics.specs.Fields.{ruleFrom, rulesFrom}
 use Rattle.semantics.specs.Theorems.Accepted.{accepted-read, accepted-lies}
 use Rattle.semantics.specs.Theorems.Fields.{rules-field, rulesFrom-more}
@@ -27,7 +27,7 @@ use Rattle.guess.specs.Negations.{assumedBy}
 use Rattle.guess.specs.Acted.{deletedBy, reducedBy, ReductOf}
 use Rattle.guess.specs.Accepted.{negations-by}
 use Rattle.guess.proofs.Reduced.{reduct-by}
-use Rattle.guess.proofs.Words.{program-stays, program-none, program-more}
+use Rattle.guess.proofs.Words.{program-stays, program-none}
 
 -- ---- the rules that are not deleted, as they are in the reduct
 module _ (u p : ℕ) where
@@ -75,7 +75,7 @@ module _ (u p : ℕ) where
       added : r ≡ true → ruleIn after n ≡ reducedBy u p (ruleFrom s place) → programIn after (n + 1) ≡ kept (rulesFrom s (number + 1) from)
       added told is =
           let e = same-answer ∙ told in
-          rw (add-one n, add-one number) (program-more after n ∙ rw (more, e, same-program, is ∙ ap (reducedBy u p) same))
+          rw (add-one number) (program-more after n ∙ rw (more, e, same-program, is ∙ ap (reducedBy u p) same))
 
       left-out : r ≡ false → programIn after n ≡ kept (rulesFrom s (number + 1) from)
       left-out told =

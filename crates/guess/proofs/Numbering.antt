@@ -11,6 +11,7 @@ use lib.Seq.{getD-at}
 use Rattle.sets.specs.Decides.{dec-one, dec-iff, is-false}
 use Rattle.sets.specs.Lists.{_among_, some, only, flat, upTo, flat-snoc, getD-among}
 use Rattle.sets.specs.Pairwise.{Distinct, distinct-places}
+use Rattle.sets.specs.Counting.{one, length-only}
 use Rattle.sets.specs.Sets.{_∈_, _∈?_, _∪_, ∅, single, setOf}
 use Rattle.sets.specs.Members.{dec-∈, ∅-∪, setOf-suc}
 use Rattle.semantics.specs.Definitions.Rules.{EpistemicRule, Subjective, K, notK, M, notM}
@@ -18,9 +19,6 @@ use Rattle.semantics.specs.Definitions.Guesses.{Negation, not-known, may-be, nu
 use Rattle.semantics.specs.Definitions.Verdict.{foundHas}
 use Rattle.semantics.specs.Theorems.Negations.{Mentioned, Appears, definition-3, negations-distinct, dec-assumed}
 use Rattle.guess.specs.Negations.{negationsIn}
-
-abbrev pub one : Bool → ℕ
-one b = cond b 1 0
 
 -- ---- a negation of a known number, and one that is not there
 module _ (es : List Negation) (g : ℕ) (e : Negation) where
@@ -43,10 +41,6 @@ module _ (k m : ℕ) where
   next : (a : ℕ) → negationsIn (suc a) k m ≡ negationsIn a k m ++ on a
   unfolding negationsIn upTo
   next a = flat-snoc on (upTo a) a
-
-  length-only : (b : Bool) (e : Negation) → length (only b e) ≡ one b
-  length-only true e = refl
-  length-only false e = refl
 
   pub next-number : (a : ℕ) → length (negationsIn (suc a) k m) ≡ length (negationsIn a k m) + one (a ∈? k) + one (a ∈? m)
   next-number a =

@@ -6,6 +6,7 @@ use mathlib.Core.Path.{_≡_, refl, sym, ap, _∙_, subst}
 use mathlib.Core.Bool.{Bool, true, false, not, cond, _&&_}
 use lib.ListN.{length}
 use Rattle.sets.specs.Lists.{upTo, flat}
+use Rattle.sets.specs.Counting.{one}
 use Rattle.sets.specs.Sets.{_∈?_, _∪_, ∅, single, setOf}
 use Rattle.sets.specs.Members.{setOf-suc}
 use Rattle.semantics.specs.Definitions.Guesses.{Negation, not-known, may-be, numbered, assumed}
@@ -13,7 +14,7 @@ use Rattle.semantics.specs.Definitions.Check.{mostNegations}
 use Rattle.semantics.specs.Definitions.Verdict.{foundHas}
 use Rattle.sheet.specs.declared.Contents.{Contents}
 use Rattle.guess.specs.Negations.{negationsIn, negationsBy, Few}
-use Rattle.guess.proofs.Numbering.{one, next-number, assumed-k, assumed-m, found-k, found-m, number-fits}
+use Rattle.guess.proofs.Numbering.{next-number, assumed-k, assumed-m, found-k, found-m, number-fits}
 
 pub at-most-one : {o : ℕ} (b : Bool) → o ≡ one b → o ≤ 1
 at-most-one true e = omega arith

@@ -1,14 +1,14 @@
 -- A program in words, as it is written: one word, four words, one rule more. Assumes nothing.
 use Prim.Native.Nat.{ℕ, suc, _+_, _*_, _≤_, _<_}
 use mathlib.Core.Path.{_≡_, refl, sym, ap, _∙_}
-use mathlib.Core.List.{List, [], _∷_, _++_}
+use mathlib.Core.List.{List, []}
 use mathlib.Core.Logic.{⊎-elim}
 use native.Mathlib.Omega.{arith}
 use native.Mathlib.Nat.{not-suc-le-zero}
 use lib.ListN.{length, take, getD, set, length-set}
 use lib.Seq.{getD-set-same, getD-set-other, take-set-le, getD-take}
 use Rattle.sets.specs.Decides.{decided, dec-eq}
-use Rattle.sets.specs.Lists.{upTo, map-upTo-suc, map-upTo-same}
+use Rattle.sets.specs.Lists.{upTo, map-upTo-same}
 use Rattle.sets.specs.Sets.{∅}
 use Rattle.semantics.specs.Words.{wordOf, ruleIn, programIn}
 use Rattle.guess.specs.Acted.{Cleared}
@@ -72,7 +72,3 @@ program-stays words others n e = map-upTo-same (ruleIn words) (ruleIn others) n 
 pub program-none : (words : List ℕ) → programIn words 0 ≡ []
 unfolding programIn upTo
 program-none words = refl
-
-pub program-more : (words : List ℕ) (n : ℕ) → programIn words (suc n) ≡ programIn words n ++ ruleIn words n ∷ []
-unfolding programIn
-program-more words n = map-upTo-suc (ruleIn words) n

@@ -1,14 +1,15 @@
 -- The negations of an accepted sheet, as the code numbers them, are those of the definition. Assumes nothing.
-use Prim.Native.Nat.{ℕ, _≤_}
+use Prim.Native.Nat.{ℕ, _^_, _≤_}
 use mathlib.Core.Path.{_≡_, sym, subst}
 use mathlib.Core.List.{List, _++_}
 use lib.ListN.{length}
+use lib.Pow.{pow-mono}
 use Rattle.sets.specs.Lists.{only, flat, upTo}
 use Rattle.sets.specs.Sets.{_∈?_}
 use Rattle.semantics.specs.Definitions.Rules.{K, notK, M, notM}
 use Rattle.semantics.specs.Definitions.Guesses.{not-known, may-be, mentioned}
 use Rattle.semantics.specs.Definitions.Reading.{field}
-use Rattle.semantics.specs.Definitions.Sheet.{Sheet, atoms, epistemicRules}
+use Rattle.semantics.specs.Definitions.Sheet.{Sheet, mostAtoms, atoms, epistemicRules}
 use Rattle.semantics.specs.Definitions.Check.{mostNegations, setting, opened}
 use Rattle.semantics.specs.Fields.{kAtoms, mAtoms}
 use Rattle.semantics.specs.Theorems.Accepted.{accepted-read}
@@ -37,3 +38,12 @@ pub few-opened : (s : List ℕ) (x : Contents) → openedOf (opened s) ≡ Accep
 few-opened s x e =
     let (y, end, d, same) = opened-as (opened s) e in
     rw same (few-by s y end d)
+
+pub few-negations : (s : List ℕ) (x : Contents) → openedOf (opened s) ≡ Accepted x → x .negations ≤ mostNegations
+few-negations s x e =
+    let (y, end, d, same) = opened-as (opened s) e in
+    rw same (accepted-read s y end d .1)
+
+-- as many words as an accepted sheet has sets of atoms at most
+pub few-sets : (s : List ℕ) (x : Contents) → openedOf (opened s) ≡ Accepted x → 2 ^ x .atoms ≤ 2 ^ mostAtoms
+few-sets s x e = pow-mono (few-opened s x e .0)

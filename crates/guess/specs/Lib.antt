@@ -2,3 +2,4 @@
 pub mod Negations
 pub mod Acted
 pub mod Accepted
+pub mod Settings

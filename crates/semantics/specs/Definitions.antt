@@ -1,4 +1,4 @@
--- In the order of document 01; Returned and Check, which needs k, stand after Setting, and Calls after Verdict.
+-- In the order of document 01; Returned and Check, which needs k, stand after Setting.
 pub mod Rules
 pub mod Reading
 pub mod Sheet
@@ -9,8 +9,8 @@ pub mod Returned
 pub mod Check
 pub mod Stable
 pub mod Verdict
-pub mod Calls
 pub mod Propagation
 pub mod Order
 pub mod Listing
 pub mod Query
+pub mod Calls

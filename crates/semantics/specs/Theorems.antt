@@ -1,4 +1,4 @@
--- The papers' reading of the definitions. Those before Negations, and Calls, are about the bytes of a sheet; Negations, Subjects, Reduct
+-- The papers' reading of the definitions. Those before Negations, Calls and ListCall are about the bytes of a sheet; Negations, Subjects, Reduct
 -- and ModalReduct about its rules; the others about any setting.
 pub mod Reading
 pub mod Fields
@@ -26,4 +26,6 @@ pub mod Order
 pub mod Tally
 pub mod Walk
 pub mod Listing
+pub mod Records
+pub mod ListCall
 pub mod Query

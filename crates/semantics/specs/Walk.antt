@@ -1,12 +1,12 @@
--- The listing as it is to be run: a walk along a list of guesses with the views met so far. The definitions of document 01 do not rest on
+-- The listing as it is run: a walk along a list of guesses with the views met so far. The definitions of document 01 do not rest on
 -- it; Theorems/Walk.antt shows that it gives what they say.
-use Prim.Native.Nat.{ℕ, suc}
-use mathlib.Core.Bool.{Bool, not, _&&_, cond}
+use Prim.Native.Nat.{ℕ, _+_}
+use mathlib.Core.Bool.{Bool, cond}
 use mathlib.Core.List.{List, [], _∷_, _++_, foldl}
 use Rattle.sets.specs.Lists.{some}
 use Rattle.sets.specs.Sets.{_⊂?_}
 use Rattle.semantics.specs.Definitions.Setting.{Setting}
-use Rattle.semantics.specs.Definitions.Verdict.{Verdict, empty, other, verified, verdict, isEmpty, isOther, isVerified}
+use Rattle.semantics.specs.Definitions.Verdict.{Verdict, empty, other, verified, verdict}
 use Rattle.semantics.specs.Definitions.Propagation.{contradicted}
 use Rattle.semantics.specs.Definitions.Listing.{Tally, View}
 
@@ -17,33 +17,43 @@ pub record Walked : Type 0 where
 abbrev pub start : Walked
 start = record { met = []; tally = record { views = 0; covered = 0; ruled = 0; tested = 0; empty = 0; other = 0 } }
 
-abbrev pub more : Bool → ℕ → ℕ
-more b n = cond b (suc n) n
+-- what a guess counts as
+pub data Outcome : Type 0 where
+  Covered Ruled Empty Other : Outcome
+  IsView : View → Outcome
 
--- one guess more, by whether it is covered, whether it is contradicted, and its verdict
-abbrev pub counted : Tally → (covered contradicted : Bool) → Verdict → Tally
-counted t c r v = record {
-  views = more (not c && not r && isVerified v) (t .views);
-  covered = more c (t .covered);
-  ruled = more (not c && r) (t .ruled);
-  tested = more (not c && not r) (t .tested);
-  empty = more (not c && not r && isEmpty v) (t .empty);
-  other = more (not c && not r && isOther v) (t .other);
-}
+-- "they are empty, other or views by their verdict"
+abbrev pub judgedAs : (guess : ℕ) → Verdict → Outcome
+judgedAs g empty = Empty
+judgedAs g (other found) = Other
+judgedAs g (verified known possible sets) = IsView (record { guess = g; known = known; possible = possible; sets = sets })
 
--- the view that a verdict on g gives
-abbrev pub viewBy : ℕ → Verdict → List View
-viewBy g empty = []
-viewBy g (other found) = []
-viewBy g (verified known possible sets) = record { guess = g; known = known; possible = possible; sets = sets } ∷ []
+-- covered; "ruled: not covered, and contradicted"; "tested: all others"
+abbrev pub outcomeBy : (guess : ℕ) (covered contradicted : Bool) → Verdict → Outcome
+outcomeBy g c r v = cond c Covered (cond r Ruled (judgedAs g v))
 
--- skipped where it is a proper subset of the guess of a view met, then where it is contradicted; else judged
+-- the six numbers with one guess more
+abbrev pub countedBy : Tally → Outcome → Tally
+countedBy t Covered = record { views = t .views; covered = t .covered + 1; ruled = t .ruled; tested = t .tested; empty = t .empty; other = t .other }
+countedBy t Ruled = record { views = t .views; covered = t .covered; ruled = t .ruled + 1; tested = t .tested; empty = t .empty; other = t .other }
+countedBy t Empty = record { views = t .views; covered = t .covered; ruled = t .ruled; tested = t .tested + 1; empty = t .empty + 1; other = t .other }
+countedBy t Other = record { views = t .views; covered = t .covered; ruled = t .ruled; tested = t .tested + 1; empty = t .empty; other = t .other + 1 }
+countedBy t (IsView v) = record { views = t .views + 1; covered = t .covered; ruled = t .ruled; tested = t .tested + 1; empty = t .empty; other = t .other }
+
+-- the view that it adds
+abbrev pub viewsBy : Outcome → List View
+viewsBy Covered = []
+viewsBy Ruled = []
+viewsBy Empty = []
+viewsBy Other = []
+viewsBy (IsView v) = v ∷ []
+
+-- covered where it is a proper subset of the guess of a view met, then ruled where it is contradicted; else judged
+abbrev pub outcome : Setting → (met : List View) → ℕ → Outcome
+outcome s met g = outcomeBy g (some (λ v. g ⊂? v .guess) met) (contradicted s g) (verdict s g)
+
 abbrev pub advance : Setting → Walked → ℕ → Walked
-advance s x g =
-    let c = some (λ v. g ⊂? v .guess) (x .met) in
-    let r = contradicted s g in
-    let v = verdict s g in
-    record { met = x .met ++ cond (not c && not r) (viewBy g v) []; tally = counted (x .tally) c r v }
+advance s x g = let o = outcome s (x .met) g in record { met = x .met ++ viewsBy o; tally = countedBy (x .tally) o }
 
 unfoldable pub walk : Setting → List ℕ → Walked
 walk s l = foldl (advance s) start l

@@ -1,13 +1,15 @@
 -- How many members a list has, and how many of them pass a test. Assumes nothing.
-use Prim.Native.Nat.{ℕ, _+_, _≤_, zero-le}
+use Prim.Native.Nat.{ℕ, _+_, _≤_, _<_, zero-le}
 use mathlib.Core.Path.{_≡_, refl, sym, ap, subst}
 use mathlib.Core.Bool.{Bool, true, false, cond}
 use mathlib.Core.List.{List, [], _∷_, _++_}
 use mathlib.Core.Logic.{_↔_, inl, inr, ⊎-elim}
 use native.Mathlib.Omega.{arith}
 use native.Mathlib.Nat.{le-antisymm}
+use lib.Dec.{eqb}
 use lib.ListN.{length, length-append}
-use Rattle.sets.specs.Lists.{_among_, here, later, nowhere, first-or-later, keep, only, flat, among-append}
+use Rattle.sets.specs.Decides.{decided, dec-eq}
+use Rattle.sets.specs.Lists.{_among_, here, later, nowhere, first-or-later, all-cons, keep, only, flat, upTo, among-append, among-upTo, length-upTo, dec-some}
 use Rattle.sets.specs.Pairwise.{Distinct}
 
 -- ---- a list with no member twice is no longer than one that has all its members
@@ -30,11 +32,20 @@ module _ {A : Type 0} where
   pub as-long : (l m : List A) → Distinct l → Distinct m → ((x : A) → (x among l) ↔ (x among m)) → length l ≡ length m
   as-long l m d e f = le-antisymm (no-longer l m d (λ x. f x .0)) (no-longer m l e (λ x. f x .1))
 
+-- n numbers below n, none twice, are all of them
+pub all-numbers : (n : ℕ) (l : List ℕ) → length l ≡ n → ((x : ℕ) → x among l → x < n) → Distinct l → (x : ℕ) → x < n → x among l
+all-numbers n l e b d x h =
+    ⊎-elim (λ p. subst (λ y. y among l) (sym (p .2)) (p .1))
+    (λ f.
+    let longer = no-longer (x ∷ l) (upTo n) (λ y m p. f (y, m, p), d) (λ y m. among-upTo n .1 (all-cons (λ z. z < n) h b y m)) in
+    absurd (omega (arith, length-upTo n)))
+    (decided (dec-some (eqb x) (λ y. x ≡ y) l (λ y _. dec-eq x y)))
+
 -- ---- how many members pass a test
 abbrev pub one : Bool → ℕ
 one b = cond b 1 0
 
-length-only : {A : Type 0} (b : Bool) (x : A) → length (only b x) ≡ one b
+pub length-only : {A : Type 0} (b : Bool) (x : A) → length (only b x) ≡ one b
 length-only true x = refl
 length-only false x = refl
 

@@ -4,7 +4,7 @@ use mathlib.Core.Path.{_≡_, refl, sym, _∙_}
 use mathlib.Core.Bool.{Bool, true, false, not, _&&_, _||_, cond, true≢false}
 use mathlib.Core.Logic.{_↔_, _⊎_, inl, inr, ⊎-elim}
 use native.Mathlib.Omega.{arith}
-use lib.Dec.{eqb, leb}
+use lib.Dec.{T, eqb, leb}
 use borrow.Author.Tests.{eqb-true, eqb-false, leb-true, leb-false}
 
 -- b is the answer to the question P.
@@ -28,6 +28,11 @@ module _ {P : Type 0} where
   is-false {b = true} d n = absurd (n (d .yes refl))
   is-false {b = false} d n = refl
 
+  -- of a test that is computed
+  pub passed : {b : Bool} → Decides P b → T b → P
+  passed {b = true} d t = d .yes refl
+  passed {b = false} d t = absurd t
+
   pub decided : {b : Bool} → Decides P b → P ⊎ (P → ⊥)
   decided {b = true} d = inl (d .yes refl)
   decided {b = false} d = inr (d .no refl)
@@ -45,9 +50,13 @@ pub dec-not : {P : Type 0} {b : Bool} → Decides P b → Decides (P → ⊥) (n
 dec-not {b = true} d = dec-false (λ n. n (d .yes refl))
 dec-not {b = false} d = dec-true (d .no refl)
 
+-- where P is needed to answer Q
+pub dec-and-then : {P Q : Type 0} {a b : Bool} → Decides P a → (P → Decides Q b) → Decides (P × Q) (a && b)
+dec-and-then {a = true} d e = let p = d .yes refl in dec-iff (λ q. (p, q), λ r. r .1) (e p)
+dec-and-then {a = false} d e = dec-false (λ r. d .no refl (r .0))
+
 pub dec-and : {P Q : Type 0} {a b : Bool} → Decides P a → Decides Q b → Decides (P × Q) (a && b)
-dec-and {a = true} d e = dec-iff (λ q. (d .yes refl, q), λ p. p .1) e
-dec-and {a = false} d e = dec-false (λ p. d .no refl (p .0))
+dec-and d e = dec-and-then d (λ _. e)
 
 pub dec-or : {P Q : Type 0} {a b : Bool} → Decides P a → Decides Q b → Decides (P ⊎ Q) (a || b)
 dec-or {a = true} d e = dec-true (inl (d .yes refl))

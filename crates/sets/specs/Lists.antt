@@ -2,7 +2,7 @@
 use Prim.Native.Nat.{ℕ, zero, suc, _<_}
 use mathlib.Core.Path.{_≡_, refl, sym, ap, ap₂, _∙_, subst}
 use mathlib.Core.Bool.{Bool, true, false, not, _&&_, _||_, cond, true≢false}
-use mathlib.Core.List.{List, [], _∷_, _++_, append-nil, append-assoc, map, map-append, List·Memᴰ, List·Memᴰ·head, List·Memᴰ·tail, List·Memᴰ·not-nil, List·Memᴰ·cases-cons, List·Memᴰ·append-cases, List·Memᴰ·eq-of-singleton, cons≢nil, Memᴰ·append-left, Memᴰ·append-right}
+use mathlib.Core.List.{List, [], _∷_, _++_, append-nil, append-assoc, foldl, map, map-append, List·Memᴰ, List·Memᴰ·head, List·Memᴰ·tail, List·Memᴰ·not-nil, List·Memᴰ·cases-cons, List·Memᴰ·append-cases, List·Memᴰ·eq-of-singleton, cons≢nil, Memᴰ·append-left, Memᴰ·append-right}
 use mathlib.Core.Logic.{_↔_, _⊎_, inl, inr, ⊎-elim}
 use native.Mathlib.Omega.{arith}
 use native.Mathlib.Nat.{eq-or-lt-of-le, le-of-suc-le-suc, not-suc-le-zero}
@@ -98,10 +98,23 @@ module _ {A : Type 0} where
     all-getD (x ∷ l) d f p zero = f x here
     all-getD (x ∷ l) d f p (suc i) = all-getD l d (λ y m. f y (later m)) p i
 
+    -- and what holds of some member
+    pub any-snoc : (l : List A) (x : A) → ((y : A) × (y among (l ++ x ∷ [])) × P y) ↔ (((y : A) × (y among l) × P y) ⊎ P x)
+    any-snoc l x = (
+      λ q. ⊎-elim (λ m. inl (q .0, m, q .2)) (λ m. inr (subst P (List·Memᴰ·eq-of-singleton m) (q .2))) (among-append l .0 (q .1)),
+      ⊎-elim (λ q. (q .0, among-append l .1 (inl (q .1)), q .2)) (λ p. (x, among-append l .1 (inr here), p)),
+    )
+
   pub getD-among : (l : List A) (d : A) (i : ℕ) → i < length l → getD l i d among l
   getD-among [] d i h = absurd (not-suc-le-zero h)
   getD-among (x ∷ l) d zero h = here
   getD-among (x ∷ l) d (suc i) h = later (getD-among l d i (le-of-suc-le-suc h))
+
+  -- a member has a place
+  pub among-place : {x : A} (l : List A) (d : A) → x among l → (i : ℕ) × (i < length l) × (getD l i d ≡ x)
+  among-place [] d m = absurd (nowhere m)
+  among-place (y ∷ l) d m =
+      ⊎-elim (λ e. (zero, omega arith, sym e)) (λ k. let (i, h, e) = among-place l d k in (suc i, omega arith, e)) (first-or-later m)
 
   pub among-only : (b : Bool) {x y : A} → x among only b y ↔ ((b ≡ true) × (x ≡ y))
   among-only true = (λ m. (refl, List·Memᴰ·eq-of-singleton m), λ p. List·Memᴰ·head (p .1))
@@ -137,7 +150,7 @@ module _ {A : Type 0} where
     unfolding keep
     keep-snoc l x = keep-append l (x ∷ []) ∙ rw keep-cons (rw append-nil)
 
-    -- ---- the tests decide "for every member" and "for some member"
+    -- ---- the tests decide for every member, and for some member
     pub dec-every : (P : A → Type 0) (l : List A) → ((x : A) → x among l → Decides (P x) (f x)) → Decides ((x : A) → x among l → P x) (every f l)
     unfolding every
     dec-every P [] d = dec-true (λ x m. absurd (nowhere m))
@@ -224,6 +237,11 @@ unfolding flat
 flat-snoc f [] x = append-nil (f x)
 flat-snoc f (y ∷ l) x = ap (λ m. f y ++ m) (flat-snoc f l x) ∙ sym (append-assoc (f y) (flat f l) (f x))
 
+-- a fold over one member more
+pub foldl-snoc : {A B : Type 0} (f : B → A → B) (b : B) (l : List A) (x : A) → foldl f b (l ++ x ∷ []) ≡ f (foldl f b l) x
+foldl-snoc f b [] x = refl
+foldl-snoc f b (y ∷ l) x = foldl-snoc f (f b y) l x
+
 pub among-upTo : {x : ℕ} (n : ℕ) → x among upTo n ↔ (x < n)
 unfolding upTo
 among-upTo zero = ((λ m. absurd (nowhere m)), λ h. absurd (not-suc-le-zero h))
@@ -261,7 +279,7 @@ module _ {A : Type 0} (f : ℕ → A) where
       go [] d = refl
       go (k ∷ l) d = ap₂ _∷_ (d k here) (go l (λ j m. d j (later m)))
 
-  -- "for every number below n"
+  -- for every number below n
   pub dec-each : (t : A → Bool) (n : ℕ) → Decides ((k : ℕ) → k < n → t (f k) ≡ true) (every t (map f (upTo n)))
   dec-each t n =
       dec-iff (
@@ -285,13 +303,13 @@ among-kept P f d n {x} = (
   λ p. among-keep f (upTo n) .1 (among-upTo n .1 (p .0), is-true (d x) (p .1)),
 )
 
--- ---- "for some number below n"
+-- ---- for some number below n
 pub dec-any : (P : ℕ → Type 0) (f : ℕ → Bool) (n : ℕ) → ((k : ℕ) → k < n → Decides (P k) (f k)) → Decides ((k : ℕ) × (k < n) × P k) (some f (upTo n))
 dec-any P f n d =
     dec-iff (λ p. (p .0, among-upTo n .0 (p .1), p .2), λ p. (p .0, among-upTo n .1 (p .1), p .2))
     (dec-some f P (upTo n) (λ k m. d k (among-upTo n .0 m)))
 
--- ---- "the same list"
+-- ---- the same list
 pub dec-same : (l m : List ℕ) → Decides (l ≡ m) (sameList l m)
 unfolding sameList
 dec-same [] [] = dec-true refl

@@ -1,12 +1,13 @@
 -- Relations between each member of a list and every later one: distinct members, sorted lists. Assumes nothing.
 use Prim.Native.Nat.{ℕ, zero, suc, _<_}
 use mathlib.Core.Path.{_≡_, refl, sym, ap, ap₂, _∙_, subst}
-use mathlib.Core.Bool.{Bool, true, false, cond}
+use mathlib.Core.Bool.{Bool, true, false, _&&_, cond}
 use mathlib.Core.List.{List, [], _∷_, _++_, map, List·Memᴰ·eq-of-singleton}
 use mathlib.Core.Logic.{_↔_, inr, ⊎-elim}
 use native.Mathlib.Omega.{arith}
 use native.Mathlib.Nat.{le-of-suc-le-suc, not-suc-le-zero}
 use lib.ListN.{length, getD}
+use Rattle.sets.specs.Decides.{Decides, dec-true, dec-iff, dec-and}
 use Rattle.sets.specs.Lists.{_among_, here, later, nowhere, first-or-later, all-cons, keep, flat, upTo, downFrom, getD-among, among-append, among-keep, among-map, among-flat, among-upTo, among-downFrom}
 
 -- R holds of each member and every later one
@@ -17,6 +18,12 @@ Pairwise R (x ∷ l) = ((y : _) → y among l → R x y) × Pairwise R l
 -- no member stands twice
 abbrev pub Distinct : {A : Type 0} → List A → Type 0
 Distinct l = Pairwise (λ x y. x ≡ y → ⊥) l
+
+-- the test r passes for each member and the next one
+unfoldable pub neighbours : {A : Type 0} → (A → A → Bool) → List A → Bool
+neighbours r [] = true
+neighbours r (x ∷ []) = true
+neighbours r (x ∷ y ∷ l) = r x y && neighbours r (y ∷ l)
 
 -- ---- pairs of members
 module _ {A : Type 0} where
@@ -43,6 +50,13 @@ module _ {A : Type 0} where
   pairwise-suffix R [] m p = p
   pairwise-suffix R (x ∷ l) m p = pairwise-suffix R l m (p .1)
 
+  -- of two places the first is related to the second
+  pub pairwise-places : (R : A → A → Type 0) (l : List A) (d : A) → Pairwise R l → (i j : ℕ) → i < j → j < length l → R (getD l i d) (getD l j d)
+  pairwise-places R [] d p i j h k = absurd (not-suc-le-zero k)
+  pairwise-places R (x ∷ l) d p i zero h k = absurd (not-suc-le-zero h)
+  pairwise-places R (x ∷ l) d p zero (suc j) h k = p .0 (getD l j d) (getD-among l d j (le-of-suc-le-suc k))
+  pairwise-places R (x ∷ l) d p (suc i) (suc j) h k = pairwise-places R l d (p .1) i j (le-of-suc-le-suc h) (le-of-suc-le-suc k)
+
   -- no two places have the same member
   pub distinct-places : (l : List A) (d : A) → Distinct l → (i j : ℕ) → i < length l → j < length l → getD l i d ≡ getD l j d → i ≡ j
   distinct-places [] d p i j h k e = absurd (not-suc-le-zero h)
@@ -64,6 +78,18 @@ module _ {A : Type 0} where
       go : (b : Bool) → Pairwise R (keep f l) → Pairwise R (cond b (x ∷ keep f l) (keep f l))
       go true q = (λ y m. p .0 y (among-keep f l .0 m .0), q)
       go false q = q
+
+-- ---- a transitive relation is tested on neighbours
+module _ {A : Type 0} (R : A → A → Type 0) (trans : (x y z : A) → R x y → R y z → R x z) (r : A → A → Bool) where
+  pub dec-neighbours : (l : List A) → ((x y : A) → x among l → y among l → Decides (R x y) (r x y)) → Decides (Pairwise R l) (neighbours r l)
+  unfolding neighbours
+  dec-neighbours [] d = dec-true tt
+  dec-neighbours (x ∷ []) d = dec-true (λ y m. absurd (nowhere m), tt)
+  dec-neighbours (x ∷ y ∷ l) d =
+      dec-iff (
+        λ p. (all-cons (R x) (p .0) (λ z m. trans x y z (p .0) (p .1 .0 z m)), p .1),
+        λ p. (p .0 y here, p .1),
+      ) (dec-and (d x y here (later here)) (dec-neighbours (y ∷ l) (λ u v m n. d u v (later m) (later n))))
 
 -- ---- two lists in one strict order, with the same members, are equal
 module _ {A : Type 0} (R : A → A → Type 0) (strict : (x y : A) → R x y → R y x → ⊥) where

@@ -1,12 +1,13 @@
 -- The size of a set: how many members it has. A proper subset is smaller. Assumes nothing.
-use Prim.Native.Nat.{ℕ, zero, suc, _/_, _%_, _^_, _≤_, _<_}
+use Prim.Native.Nat.{ℕ, zero, suc, _+_, _/_, _%_, _^_, _≤_, _<_}
 use mathlib.Core.Path.{_≡_, refl, sym, ap, _∙_, subst}
 use mathlib.Core.Bool.{Bool, true, false}
 use mathlib.Core.List.{List, _∷_}
 use mathlib.Core.Logic.{_↔_, ⊎-elim}
 use native.Mathlib.Omega.{arith}
 use native.Mathlib.Nat.{mod-eq-of-lt, mod-one, mod-lt, pow-suc, lt-of-not-le, lt-of-le-of-lt}
-use lib.Count.{ones, ones-cat, ones-le, onesIn}
+use lib.Arith.{lt-one}
+use lib.Count.{ones, ones-cat, ones-le, ones-step, onesIn}
 use lib.ListN.{length, length-append}
 use lib.Pow.{mod-pow-add, pow-pos}
 use Rattle.sets.specs.Decides.{decided, dec-eq}
@@ -39,6 +40,12 @@ size-members n x l = ap ones (sym (mod-eq-of-lt l)) ∙ size-mod n x
 pub size-below : (n x : ℕ) → x < 2 ^ n → size x ≤ n
 size-below n x l = ones-le n x l
 
+-- the size, counted in n digits
+pub size-in : (n x : ℕ) → x < 2 ^ n → onesIn n x ≡ size x
+unfolding onesIn ones
+size-in zero x l = sym (ap ones (lt-one l))
+size-in (suc n) x l = ap (λ z. x % 2 + z) (size-in n (x / 2) (omega (arith, pow-suc 2 n))) ∙ sym (ones-step x)
+
 pub among-members : {a : ℕ} (n x : ℕ) → x < 2 ^ n → a among members n x ↔ (a ∈ x)
 unfolding members
 among-members n x l =
@@ -52,6 +59,14 @@ members-distinct n x = pairwise-keep _ _ (upTo n) (upTo-distinct n)
 below-pow : (n : ℕ) → n < 2 ^ n
 below-pow zero = omega arith
 below-pow (suc n) = omega (arith, below-pow n, pow-suc 2 n)
+
+-- a set has no fewer members than a list of members, each once, and no more than a list that has them all
+module _ (x : ℕ) (l : List ℕ) where
+  pub size-least : Distinct l → ((a : ℕ) → a among l → a ∈ x) → length l ≤ size x
+  size-least d f = rw (size-members x x (below-pow x)) (no-longer l (members x x) d (λ a m. among-members x x (below-pow x) .1 (f a m)))
+
+  pub size-most : ((a : ℕ) → a ∈ x → a among l) → size x ≤ length l
+  size-most f = rw (size-members x x (below-pow x)) (no-longer (members x x) l (members-distinct x x) (λ a m. f a (among-members x x (below-pow x) .0 m)))
 
 -- the two sets of x ⊆ y as the lists of their members
 module _ {x y : ℕ} (s : x ⊆ y) where

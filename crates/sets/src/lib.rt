@@ -3,7 +3,7 @@
 ghost use mathlib.Core.Path.{_≡_};
 ghost use mathlib.Core.Bool.{cond};
 ghost use Prim.Native.Nat.{_^_, _<_};
-ghost use Rattle.sets.specs.Sets.{_∈?_, _⊆?_, _⊂?_, _meets?_, _∪_, _∖_, ∅, single, size as sizeOf};
+ghost use Rattle.sets.specs.Sets.{_∈?_, _⊆?_, _⊂?_, _meets?_, _∪_, _∖_, ∅, full as fullOf, single, size as sizeOf};
 
 // Is a in the set x?
 pub fn member(a: u16, x: u16) -> bool
@@ -67,4 +67,12 @@ pub fn power(k: u16) -> u16
     ensures { λ r. ⌜ r ≡ 2 ^ k ⌝ }
 {
     1 << k
+}
+
+// The numbers below k.
+pub fn full(k: u16) -> u16
+    requires { ⌜ k < 16 ⌝ }
+    ensures { λ r. ⌜ r ≡ fullOf k ⌝ }
+{
+    power(k) - 1
 }

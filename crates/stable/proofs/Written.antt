@@ -10,7 +10,7 @@ use lib.Seq.{getD-set-same, getD-set-other}
 use Rattle.sets.specs.Decides.{Decides, is-true}
 use Rattle.sets.specs.Lists.{keep, only, upTo, keep-snoc, map-upTo-suc, map-upTo-same, dec-each}
 use Rattle.sets.specs.Sets.{∅}
-use Rattle.semantics.specs.Words.{ruleIn, programIn}
+use Rattle.semantics.specs.Words.{ruleIn, programIn, program-more}
 use Rattle.semantics.specs.Definitions.Stable.{satisfies, isModel, positive}
 use Rattle.semantics.specs.Theorems.Stable.{Model, dec-model}
 use Rattle.stable.specs.Applied.{applies, applied, positiveIn, positiveProgramIn}
@@ -30,8 +30,8 @@ module _ (words : List ℕ) where
 
   -- one rule more: it is among those whose bodies hold in i, or not
   more : (i j : ℕ) → applied i (programIn words (j + 1)) ≡ applied i (programIn words j) ++ map positive (only (applies i (ruleIn words j)) (ruleIn words j))
-  unfolding applied programIn
-  more i j = rw (add-one j, map-upTo-suc (ruleIn words) j, keep-snoc, map-append)
+  unfolding applied
+  more i j = rw (program-more words j, keep-snoc, map-append)
 
 -- a rule written after the first n
 written : (out : List ℕ) (n head plain : ℕ) → 2 * n + 2 ≤ length out

@@ -1,17 +1,12 @@
 -- A turn of each walk. Assumes nothing.
 use Prim.Native.Nat.{ℕ, _+_, _<_}
-use mathlib.Core.Path.{_≡_, refl, sym, _∙_}
+use mathlib.Core.Path.{_≡_, sym, _∙_}
 use mathlib.Core.Bool.{Bool, true, false}
-use mathlib.Core.List.{List, [], _∷_, _++_, append-nil, foldl}
+use mathlib.Core.List.{List, append-nil, foldl}
 use native.Mathlib.Numerals.{add-one}
 use lib.ListN.{length, getD, set, take}
 use lib.Seq.{take-suc, take-suc-set}
-use Rattle.sets.specs.Lists.{keep, upTo, keep-snoc}
-
--- a fold over one member more
-foldl-snoc : (f : ℕ → ℕ → ℕ) (b : ℕ) (l : List ℕ) (x : ℕ) → foldl f b (l ++ x ∷ []) ≡ f (foldl f b l) x
-foldl-snoc f b [] x = refl
-foldl-snoc f b (y ∷ l) x = foldl-snoc f (f b y) l x
+use Rattle.sets.specs.Lists.{keep, upTo, keep-snoc, foldl-snoc}
 
 pub folded : (f : ℕ → ℕ → ℕ) (b : ℕ) (l : List ℕ) (i : ℕ) → i < length l → {x : ℕ} → x ≡ foldl f b (take i l) → f x (getD l i 0) ≡ foldl f b (take (i + 1) l)
 folded f b l i h e = rw (e, add-one, take-suc l i 0 h) (sym (foldl-snoc f b (take i l) (getD l i 0)))

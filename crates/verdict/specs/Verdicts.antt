@@ -2,15 +2,14 @@
 use Prim.Native.Nat.{ℕ}
 use mathlib.Core.Path.{_≡_}
 use mathlib.Core.Bool.{not}
-use mathlib.Core.List.{List, []}
+use mathlib.Core.List.{List}
 use lib.Dec.{eqb}
 use Rattle.semantics.specs.Definitions.Reading.{field}
 use Rattle.semantics.specs.Definitions.Sheet.{Sheet}
-use Rattle.semantics.specs.Definitions.Setting.{Setting}
 use Rattle.semantics.specs.Definitions.Check.{setting, opened}
 use Rattle.semantics.specs.Definitions.Verdict as meant
 use Rattle.sheet.specs.declared.Contents.{Contents}
-use Rattle.guess.specs.Negations.{negationsBy, foundBy}
+use Rattle.guess.specs.Negations.{foundBy}
 use Rattle.verdict.specs.declared.Verdict.{Verdict}
 use Rattle.verdict.specs.declared.Verdict.the-variants.{Empty, Other, Verified}
 
@@ -30,7 +29,3 @@ VerdictOn s g v = (x : Sheet) (end : ℕ) → opened s ≡ field x end → v ≡
 -- the verdict on a guess that has n belief sets, in which so much is known and possible
 abbrev pub verdictFrom : Contents → (n known possible guess : ℕ) → meant.Verdict
 verdictFrom x n known possible g = let found = foundBy x known possible in meant.judge (eqb n 0) (not (eqb found g)) found known possible n
-
--- atoms and negations, which is all that a verdict asks of a setting once W is there
-abbrev pub settingFor : Contents → Setting
-settingFor x = record { atoms = x .atoms; negations = negationsBy x; program = λ _. [] }

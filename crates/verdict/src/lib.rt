@@ -13,12 +13,12 @@ ghost use lib.ListN.{length, take};
 ghost use Rattle.semantics.specs.Words.{programIn};
 ghost use Rattle.semantics.specs.Definitions.Sheet.{mostAtoms, mostRules};
 ghost use Rattle.semantics.specs.Definitions.Check.{opened};
-ghost use Rattle.semantics.specs.Definitions.Stable.{stableSets};
-ghost use Rattle.semantics.specs.Definitions.Verdict.{verdictBy};
+ghost use Rattle.semantics.specs.Definitions.Verdict.{verdict};
 ghost use Rattle.sheet.specs.declared.Opened.the-variants.{Accepted};
 ghost use Rattle.sheet.specs.Opened.{openedOf};
 ghost use Rattle.guess.specs.Negations.{Few};
-ghost use Rattle.verdict.specs.Verdicts.{settingFor, verdictOf, verdictFrom, VerdictOn, BeliefSets};
+ghost use Rattle.guess.specs.Settings.{settingBy};
+ghost use Rattle.verdict.specs.Verdicts.{verdictOf, verdictFrom, VerdictOn, BeliefSets};
 
 // What is said of a guess: no belief set; the guess found, which is another; or known, possible and the number of belief sets.
 pub enum Verdict {
@@ -43,9 +43,9 @@ fn decide(n: usize, known: u16, possible: u16, x: Contents, guess: u16) -> Verdi
 }
 
 // The verdict on a guess whose reduct is the first rules of a program. The words lent are room for the belief sets.
-fn judge(program: &[u16], rules: usize, x: Contents, guess: u16, room: &mut [u16]) -> Verdict
+pub fn judge(program: &[u16], rules: usize, x: Contents, guess: u16, room: &mut [u16]) -> Verdict
     requires { ⌜ (4 * rules ≤ length (now program)) × (rules ≤ mostRules) × Few x × (2 ^ x .atoms ≤ length (now room)) ⌝ }
-    ensures { λ r. ⌜ verdictOf r ≡ verdictBy (settingFor x) (stableSets (x .atoms) (programIn (now (program .entry)) rules)) guess ⌝ }
+    ensures { λ r. ⌜ verdictOf r ≡ verdict (settingBy x (programIn (now (program .entry)) rules)) guess ⌝ }
 {
     let n = stable_sets(program, rules, x.atoms, &mut room[..]);
     let known = known_in(&room[..], n, x.atoms);

@@ -1,4 +1,5 @@
 // The walks: over all sets of atoms for the stable ones, and over these for known and for possible.
+use sets::full;
 use sets::power;
 use stable::stable;
 ghost use mathlib.Core.Path.{_≡_};
@@ -34,7 +35,7 @@ pub fn known_in(sets: &[u16], n: usize, atoms: usize) -> u16
     requires { ⌜ (n ≤ length (now sets)) × (atoms ≤ mostAtoms) ⌝ }
     ensures { λ r. ⌜ r ≡ ⋂ atoms (take n (now (sets .entry))) ⌝ }
 {
-    let mut all = power(atoms as u16) - 1;
+    let mut all = full(atoms as u16);
     let mut i = 0;
     while i < n {
         all = all & sets[i];

@@ -1,15 +1,15 @@
--- Document 01, "Turned back at the door": the calls that take a guess. What each returns, for every sheet and guess.
-use Prim.Native.Nat.{ℕ, _^_}
-use mathlib.Core.Bool.{cond}
+-- Document 01, "Turned back at the door": what the calls for a guess and the listing return, for every sheet, guess and number of words.
+use Prim.Native.Nat.{ℕ, _*_, _^_}
 use mathlib.Core.List.{List}
-use lib.Dec.{leb, ltb}
+use lib.Dec.{ltb}
 use lib.ListN.{length}
 use Rattle.semantics.specs.Definitions.Reading.{Reading, field, _then_, require}
 use Rattle.semantics.specs.Definitions.Sheet.{Sheet}
-use Rattle.semantics.specs.Definitions.Setting.{k}
+use Rattle.semantics.specs.Definitions.Setting.{Setting, k}
 use Rattle.semantics.specs.Definitions.Check.{setting, opened}
-use Rattle.semantics.specs.Definitions.Returned.{Returned, accepted, refusal, returned}
+use Rattle.semantics.specs.Definitions.Returned.{Returned, accepted, returned, limited}
 use Rattle.semantics.specs.Definitions.Verdict.{beliefSets, Verdict, verdict}
+use Rattle.semantics.specs.Definitions.Listing.{Tally, tallyOf, View, listing, words}
 
 -- What a call that takes a guess checks first: 1 to 7, and then "8, 0" where "guess not below 2^k"
 unfoldable pub openedFor : List ℕ → (guess : ℕ) → Reading Sheet
@@ -22,16 +22,32 @@ openedFor sheet g =
 unfoldable pub verdictCall : List ℕ → (guess : ℕ) → Returned Verdict
 verdictCall sheet g = returned (openedFor sheet g) (λ x. accepted (verdict (setting x) g))
 
--- the sets w into so many words, once all else is judged: "9, number of sets" where "more sets than words"
-abbrev pub limited : (words : ℕ) → List ℕ → Returned (List ℕ)
-limited words w = cond (leb (length w) words) (accepted w) (refusal 9 (length w))
+-- the sets w into so many words: 9 where "more sets than words"
+abbrev pub setsInto : (words : ℕ) → List ℕ → Returned (List ℕ)
+setsInto words w = limited (length w) words (length w) w
 
--- "Belief sets of a guess: W by rising number, into a lent buffer of 16-bit words, with the count; an empty W gives count 0." ("Words
--- after the last set keep their contents.": `afterwards`.)
+-- "Belief sets of a guess: W by rising number, into a lent buffer of 16-bit words, with the count; an empty W gives count 0." The count is
+-- `answer length` of it. ("Words after the last set keep their contents.": `afterwards`.)
 unfoldable pub beliefSetsCall : List ℕ → (guess words : ℕ) → Returned (List ℕ)
-beliefSetsCall sheet g words = returned (openedFor sheet g) (λ x. limited words (beliefSets (setting x) g))
+beliefSetsCall sheet g words = returned (openedFor sheet g) (λ x. setsInto words (beliefSets (setting x) g))
 
--- "with the count"
-abbrev pub withCount : Returned (List ℕ) → Returned ℕ
-withCount (accepted w) = accepted (length w)
-withCount (refusal number place) = refusal number place
+-- "The result has views, covered, ruled, tested, empty, other." And the views, which are written as records.
+pub record Result : Type 0 where
+  pub tally : Tally
+  pub views : List View
+
+abbrev pub resultOf : Setting → Result
+resultOf s = record { tally = tallyOf s; views = listing s }
+
+-- "Each record is written into its own part of the lent buffer"
+abbrev pub recordsOf : Result → List ℕ
+recordsOf r = words (r .views)
+
+-- a result into so many words: 9 where "4 times views [..] over the words"
+abbrev pub resultInto : (words : ℕ) → Result → Returned Result
+resultInto words r = limited (4 * length (r .views)) words (length (r .views)) r
+
+-- "Order and listing". The six numbers are `answer (λ r. r .tally)` of it, the lent buffer then `afterwards recordsOf` of it. ("Words after
+-- the last record keep their contents.")
+unfoldable pub listCall : List ℕ → (words : ℕ) → Returned Result
+listCall sheet words = returned (opened sheet) (λ x. resultInto words (resultOf (setting x)))

@@ -82,5 +82,8 @@ abbrev pub listing : Setting → List View
 listing s = viewsAlong s (order (k s))
 
 -- "each as its four words"
+abbrev pub recordOf : View → List ℕ
+recordOf v = v .guess ∷ v .known ∷ v .possible ∷ v .sets ∷ []
+
 abbrev pub words : List View → List ℕ
-words vs = flat (λ v. v .guess ∷ v .known ∷ v .possible ∷ v .sets ∷ []) vs
+words vs = flat recordOf vs

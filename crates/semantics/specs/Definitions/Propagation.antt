@@ -30,7 +30,7 @@ entersT p x a = some (λ r. a ∈? r .head && sure x r && r .head ⊆? single a 
 abbrev pub entersF : List Rule → Pair → ℕ → Bool
 entersF p x a = every (λ r. not (a ∈? r .head) || dead x r) p
 
--- what enters at once, added. n is the number of atoms.
+-- one step: to T and F is added all that enters by them. n is the number of atoms.
 abbrev pub step : ℕ → List Rule → Pair → Pair
 step n p x = record {
   T = setOf (λ a. a ∈? x .T || entersT p x a) n;

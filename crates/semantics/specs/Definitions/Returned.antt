@@ -1,6 +1,8 @@
 -- Document 01, "Turned back at the door": what a call returns, and what it leaves in a lent buffer.
 use Prim.Native.Nat.{ℕ}
+use mathlib.Core.Bool.{cond}
 use mathlib.Core.List.{List, _++_}
+use lib.Dec.{leb}
 use lib.ListN.{length, drop}
 use Rattle.semantics.specs.Definitions.Reading.{Reading, field, refused}
 use Rattle.semantics.specs.Definitions.Sheet.{Sheet}
@@ -15,6 +17,15 @@ pub data Returned (A : Type 0) : Type 0 where
 abbrev pub returned : {A : Type 0} → Reading Sheet → (Sheet → Returned A) → Returned A
 returned (field x end) of = of x
 returned (refused number place) of = refusal number place
+
+-- values that need so many words, once all else is judged: "9, number of sets or views" where there are fewer
+abbrev pub limited : {A : Type 0} → (needed words number : ℕ) → A → Returned A
+limited needed words number values = cond (leb needed words) (accepted values) (refusal 9 number)
+
+-- what of the values the answer itself has, where the rest goes into a lent buffer
+abbrev pub answer : {A B : Type 0} → (A → B) → Returned A → Returned B
+answer of (accepted values) = accepted (of values)
+answer of (refusal number place) = refusal number place
 
 -- "When a call is accepted, whatever part of a lent buffer its answer doesn't fill keeps its contents.": a lent buffer after the words ws
 -- are written to its front

@@ -54,14 +54,14 @@ module _ (s : List ℕ) where
   abbrev pub present : {A : Type 0} → (at n : ℕ) → Reading A → Reading A
   present at n rest = require (leb (at + n) (length s)) 1 (length s) rest
 
-  -- "One byte: the number of .."; "2, place of the count" where "over 15 atoms or 64 rules"
+  -- "One byte: the number of [..]"; "2, place of the count" where "over 15 atoms or 64 rules"
   unfoldable pub countAt : (limit at : ℕ) → Reading ℕ
   countAt limit at =
       present at 1
       (require (leb (byteAt at) limit) 2 at
       (field (byteAt at) (at + 1)))
 
-  -- a byte of a name after some earlier ones, the first if there are none; "3, place of the .. byte" where it is "a bad byte of a name"
+  -- a byte of a name after some earlier ones, the first if there are none; "3, place of the [..] byte" where it is "a bad byte of a name"
   unfoldable pub nameByteAt : (earlier : List ℕ) (at : ℕ) → Reading ℕ
   nameByteAt earlier at =
       require (nameByte (null earlier) (byteAt at)) 3 at

@@ -14,7 +14,7 @@ use Rattle.semantics.specs.Definitions.Check.{setting, opened, check}
 use Rattle.semantics.specs.Definitions.Returned.{Returned, accepted, returned}
 use Rattle.semantics.specs.Definitions.Stable.{reductAt, smallerModel, stable, stableSets}
 use Rattle.semantics.specs.Definitions.Verdict.{beliefSets, guessFound, verdict}
-use Rattle.semantics.specs.Definitions.Calls.{openedFor, verdictCall, beliefSetsCall}
+use Rattle.semantics.specs.Definitions.Calls.{openedFor, verdictCall, beliefSetsCall, listCall}
 use Rattle.semantics.specs.Definitions.Propagation.{steps, contradicted}
 use Rattle.semantics.specs.Definitions.Order.{order}
 use Rattle.semantics.specs.Definitions.Listing.{View, Tally, isWorldView, covered, tallyOf, viewsAlong, listing}
@@ -23,6 +23,7 @@ use Rattle.semantics.specs.Examples.Sheets.{Listed, zeros, ten, kiln, sh
 use Rattle.semantics.specs.Examples.Own.{own}
 use Rattle.semantics.specs.Examples.Limits.{answers}
 use Rattle.semantics.specs.Examples.Guesses.{verdicts, sets}
+use Rattle.semantics.specs.Examples.Listings.{listings}
 
 -- the bytes read, and then something of their setting; or the refusal
 abbrev pub read : {A : Type 0} → (Setting → A) → List ℕ → Returned A
@@ -48,11 +49,13 @@ pub record Computed : Type 0 where
   -- what the calls that take a guess return; the other three errors are among these guesses
   pub verdicts-returned : map (λ p. verdictCall (p .0) (p .1)) verdicts ≡ map (λ p. p .2) verdicts
   pub sets-returned : map (λ p. beliefSetsCall (p .0) (p .1) (p .2)) sets ≡ map (λ p. p .3) sets
+  -- what the listing returns
+  pub listings-returned : map (λ p. listCall (p .0) (p .1)) listings ≡ map (λ p. p .2) listings
   -- limit cases of the sheet
   pub limits : map (λ p. check (p .0)) answers ≡ map (λ p. p .1) answers
 
 pub computed : Computed
-unfolding ℕ-discrete ones onesIn every some keep flat upTo downFrom sameList setOf zeros times countAt nameByteAt nameAt maskAt ruleAt sections opened check reductRule reduct reductAt smallerModel stable stableSets beliefSets guessFound verdict openedFor verdictCall beliefSetsCall steps contradicted order isWorldView covered tallyOf viewsAlong walk
+unfolding ℕ-discrete ones onesIn every some keep flat upTo downFrom sameList setOf zeros times countAt nameByteAt nameAt maskAt ruleAt sections opened check reductRule reduct reductAt smallerModel stable stableSets beliefSets guessFound verdict openedFor verdictCall beliefSetsCall listCall steps contradicted order isWorldView covered tallyOf viewsAlong walk
 computed = record {
   checks = refl;
   lists = refl;
@@ -60,5 +63,6 @@ computed = record {
   two-views = refl;
   verdicts-returned = refl;
   sets-returned = refl;
+  listings-returned = refl;
   limits = refl;
 }

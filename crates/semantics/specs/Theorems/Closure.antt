@@ -41,6 +41,11 @@ pub record Within (x y : Pair) : Type 0 where
   pub in-T : x .T ⊆ y .T
   pub in-F : x .F ⊆ y .F
 
+-- "T and F are the least sets of atoms closed under these rules."
+pub record LeastClosed (n : ℕ) (p : List Rule) (x : Pair) : Type 0 where
+  pub closed : Closed n p x
+  pub least : {y : Pair} → Closed n p y → Within x y
+
 -- ---- and their tests
 pub dec-sure : (x : Pair) (r : Rule) → Decides (Sure x r) (sure x r)
 dec-sure x r =
@@ -178,10 +183,14 @@ module _ (n : ℕ) (p : List Rule) where
   pub propagated-least : {y : Pair} → Closed n p y → Within (propagated n p) y
   propagated-least c = stage-within c (2 * n)
 
-  -- so additions in any order lead there: a closed pair within it is the pair itself
-  pub propagated-only : {y : Pair} → Closed n p y → Within y (propagated n p) → y ≡ propagated n p
-  propagated-only {y} c w =
-      let v = propagated-least c in
-      let t : y .T ≡ propagated n p .T = ⊆-antisym (w .in-T) (v .in-T) in
-      let f : y .F ≡ propagated n p .F = ⊆-antisym (w .in-F) (v .in-F) in
+  pub propagated-is : LeastClosed n p (propagated n p)
+  propagated-is = record { closed = propagated-closed; least = propagated-least }
+
+  -- and no other pair is: additions in any order lead there
+  pub least-only : {x : Pair} → LeastClosed n p x → x ≡ propagated n p
+  least-only {x} l =
+      let w = l .least propagated-closed in
+      let v = propagated-least (l .closed) in
+      let t : x .T ≡ propagated n p .T = ⊆-antisym (w .in-T) (v .in-T) in
+      let f : x .F ≡ propagated n p .F = ⊆-antisym (w .in-F) (v .in-F) in
       λ i. record { T = t i; F = f i }

@@ -5,7 +5,7 @@ use mathlib.Core.Bool.{not, _&&_}
 use mathlib.Core.List.{List}
 use mathlib.Core.Logic.{_↔_, _⊎_, inl, inr, ⊎-elim}
 use lib.Dec.{eqb}
-use Rattle.sets.specs.Decides.{Decides, decided, dec-not, dec-and, dec-or, dec-if, dec-eq}
+use Rattle.sets.specs.Decides.{Decides, decided, dec-iff, dec-not, dec-and, dec-or, dec-if, dec-eq}
 use Rattle.sets.specs.Lists.{_among_, dec-some, dec-any}
 use Rattle.sets.specs.Sets.{_∈_, _⊆_, _⊂_, Meets, _∈?_, ∅, setOf}
 use Rattle.sets.specs.Members.{dec-∈, ∈-below, ∈-∅, ⊆-trans, dec-meets, ∈-setOf-dec}
@@ -16,7 +16,7 @@ use Rattle.semantics.specs.Definitions.Verdict.{beliefSets}
 use Rattle.semantics.specs.Definitions.Propagation.{Pair, propagated, clashes, contradicted}
 use Rattle.semantics.specs.Theorems.Stable.{NegationsHold, ReducedModel, Stable, reduced-model, among-belief-sets}
 use Rattle.semantics.specs.Theorems.Verdict.{Satisfied, Verifiable}
-use Rattle.semantics.specs.Theorems.Closure.{Sure, Dead, Closed, dec-sure, sure-more, propagated-least}
+use Rattle.semantics.specs.Theorems.Closure.{Sure, Dead, Closed, LeastClosed, dec-sure, sure-more, propagated-least, propagated-is, least-only}
 
 -- ---- a stable set, and what is outside it, are a closed pair
 module _ (n : ℕ) (p : List Rule) (i : ℕ) (l : i < 2 ^ n) (st : Stable p i) where
@@ -98,22 +98,33 @@ Clash j g (may-be a) x = ((j ∈ g) × (a ∈ x .F)) ⊎ ((j ∈ g → ⊥) × (
 abbrev pub EmptyHead : List Rule → Pair → Type 0
 EmptyHead p x = (r : Rule) × (r among p) × (Sure x r × (r .head ≡ ∅))
 
-dec-clash : (j g : ℕ) (e : Negation) (x : Pair) → Decides (Clash j g e x) (clashes (j ∈? g) e x)
+pub dec-clash : (j g : ℕ) (e : Negation) (x : Pair) → Decides (Clash j g e x) (clashes (j ∈? g) e x)
 dec-clash j g (not-known a) x = dec-if (dec-∈ j g) (dec-∈ a (x .T)) (dec-∈ a (x .F))
 dec-clash j g (may-be a) x = dec-if (dec-∈ j g) (dec-∈ a (x .F)) (dec-∈ a (x .T))
 
 module _ (s : Setting) (g : ℕ) where
+  -- T and F of its reduct
   abbrev pub pairOf : Pair
   pairOf = propagated (s .atoms) (s .program g)
 
-  abbrev pub Contradicted : Type 0
-  Contradicted = (Meets (pairOf .T) (pairOf .F) ⊎ EmptyHead (s .program g) pairOf) ⊎ ((j : ℕ) × (j < k s) × Clash j g (negation s j) pairOf)
+  -- "A guess is contradicted when" so, of T and F
+  abbrev pub ContradictedBy : Pair → Type 0
+  ContradictedBy x = (Meets (x .T) (x .F) ⊎ EmptyHead (s .program g) x) ⊎ ((j : ℕ) × (j < k s) × Clash j g (negation s j) x)
 
-  pub dec-contradicted : Decides Contradicted (contradicted s g)
+  abbrev pub Contradicted : Type 0
+  Contradicted = (x : Pair) × LeastClosed (s .atoms) (s .program g) x × ContradictedBy x
+
+  pub dec-contradicted-by : Decides (ContradictedBy pairOf) (contradicted s g)
   unfolding contradicted
-  dec-contradicted =
+  dec-contradicted-by =
       dec-or (dec-or (dec-meets (pairOf .T) (pairOf .F)) (dec-some _ _ (s .program g) (λ r _. dec-and (dec-sure pairOf r) (dec-eq (r .head) ∅))))
       (dec-any _ _ (k s) (λ j _. dec-clash j g (negation s j) pairOf))
+
+  by-pair : Contradicted → ContradictedBy pairOf
+  by-pair c = subst ContradictedBy (least-only (s .atoms) (s .program g) (c .1)) (c .2)
+
+  pub dec-contradicted : Decides Contradicted (contradicted s g)
+  dec-contradicted = dec-iff (λ c. (pairOf, propagated-is (s .atoms) (s .program g), c), by-pair) dec-contradicted-by
 
   -- a belief set contains T and no atom of F
   pub believed-T : {i : ℕ} → i among beliefSets s g → pairOf .T ⊆ i
@@ -136,6 +147,9 @@ module _ (s : Setting) (g : ℕ) where
   no-clash j (may-be a) first w (inr q) = q .0 (w .1 (first .0, first .1, believed-T (first .1) .into (q .1)))
 
   pub contradicted-unverifiable : Contradicted → Verifiable s g → ⊥
-  contradicted-unverifiable (inl (inl m)) v = let (i, b) = v .non-empty in believed-F b (m .right) (believed-T b .into (m .left))
-  contradicted-unverifiable (inl (inr q)) v = no-empty-head (v .non-empty .1) q
-  contradicted-unverifiable (inr (j, l, c)) v = no-clash j (negation s j) (v .non-empty) (v .exact j l) c
+  contradicted-unverifiable c v = go (by-pair c)
+    where
+      go : ContradictedBy pairOf → ⊥
+      go (inl (inl m)) = let (i, b) = v .non-empty in believed-F b (m .right) (believed-T b .into (m .left))
+      go (inl (inr q)) = no-empty-head (v .non-empty .1) q
+      go (inr (j, l, clash)) = no-clash j (negation s j) (v .non-empty) (v .exact j l) clash

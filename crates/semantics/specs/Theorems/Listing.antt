@@ -1,6 +1,6 @@
 -- The list of views: one for each world view and no other, larger guesses first; none exactly when no guess is verified. Assumes nothing.
 use Prim.Native.Nat.{ℕ, _^_, _≤_, _<_}
-use mathlib.Core.Path.{_≡_, refl, _∙_}
+use mathlib.Core.Path.{_≡_, refl, sym, ap, _∙_, subst}
 use mathlib.Core.List.{List, []}
 use mathlib.Core.Logic.{_↔_}
 use lib.ListN.{length, length-map}
@@ -14,7 +14,7 @@ use Rattle.semantics.specs.Definitions.Order.{order}
 use Rattle.semantics.specs.Definitions.Listing.{isWorldView, tallyOf, View, viewOf, viewsAlong, listing}
 use Rattle.semantics.specs.Theorems.Verdict.{Verifiable, dec-verifiable, verified-verdict}
 use Rattle.semantics.specs.Theorems.WorldView.{WorldView, definition-6, maximal-superset}
-use Rattle.semantics.specs.Theorems.Order.{Before, Enumerates, order-sorted}
+use Rattle.semantics.specs.Theorems.Order.{Before, Enumerates, order-sorted, order-enumerates}
 use Rattle.semantics.specs.Theorems.Walk.{count-along}
 
 module _ (s : Setting) where
@@ -62,3 +62,29 @@ module _ (s : Setting) where
     pub views-long : length (viewsAlong s l) ≡ tallyOf s .views
     unfolding viewsAlong tallyOf
     views-long = length-map (keep (isWorldView s) l) (viewOf s) ∙ count-along s l en (isWorldView s)
+
+-- vs has a view for each world view (000, Definition 6) and no other
+pub record ViewsOf (s : Setting) (vs : List View) : Type 0 where
+  pub exactly : {v : View} → v among vs ↔ ((g : ℕ) × (g < 2 ^ k s) × WorldView s g × (v ≡ viewOf s g))
+  -- no guess gets a second one
+  pub once : Pairwise (λ v w. v .guess ≡ w .guess → ⊥) vs
+  -- larger guesses first, equal sizes by rising number
+  pub ordered : Pairwise (λ v w. Before (v .guess) (w .guess)) vs
+  -- none exactly when no guess is reduct-verifiable
+  pub none-exactly : (vs ≡ []) ↔ ((g : ℕ) → g < 2 ^ k s → Verifiable s g → ⊥)
+
+pub views-of : (s : Setting) → ViewsOf s (listing s)
+views-of s =
+    let en = order-enumerates (k s) in
+    record { exactly = among-views s _ en; once = views-once s _ en; ordered = listing-sorted s; none-exactly = views-none s _ en }
+
+pub listing-long : (s : Setting) → length (listing s) ≡ tallyOf s .views
+listing-long s = views-long s (order (k s)) (order-enumerates (k s))
+
+-- a guess gets a view exactly when it is reduct-verifiable and no proper superset of it is
+pub gets-one : (s : Setting) (vs : List View) → ViewsOf s vs → (g : ℕ) → g < 2 ^ k s → ((v : View) × (v among vs) × (v .guess ≡ g)) ↔ WorldView s g
+gets-one s vs o g l = (
+  λ p. let (v, m, e) = p in
+      let (h, _, w, d) = o .exactly .0 m in subst (WorldView s) (sym (ap (λ z. z .guess) d) ∙ e) w,
+  λ w. (viewOf s g, o .exactly .1 (g, l, w, refl), refl),
+)

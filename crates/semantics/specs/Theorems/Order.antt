@@ -6,11 +6,13 @@ use mathlib.Core.Logic.{_↔_, _⊎_, inl, inr}
 use native.Mathlib.Omega.{arith}
 use native.Mathlib.Nat.{lt-of-lt-of-le}
 use lib.Dec.{eqb, ltb}
+use lib.ListN.{length}
 use lib.Pow.{pow-mono}
 use borrow.Author.Tests.{ltb-true, lt-ltb}
 use Rattle.sets.specs.Decides.{dec-eq}
-use Rattle.sets.specs.Lists.{_among_, keep, among-keep, among-kept, upTo, downFrom, among-downFrom, among-flat}
-use Rattle.sets.specs.Pairwise.{upTo-rising, downFrom-falling, Pairwise, Distinct, pairwise-map, pairwise-keep, pairwise-flat, sorted-same}
+use Rattle.sets.specs.Lists.{_among_, keep, among-keep, among-kept, upTo, among-upTo, length-upTo, downFrom, among-downFrom, among-flat}
+use Rattle.sets.specs.Pairwise.{upTo-rising, upTo-distinct, downFrom-falling, Pairwise, Distinct, pairwise-map, pairwise-keep, pairwise-flat, sorted-same}
+use Rattle.sets.specs.Counting.{as-long, all-numbers}
 use Rattle.sets.specs.Sets.{Below, size}
 use Rattle.sets.specs.Size.{size-below}
 use Rattle.semantics.specs.Definitions.Order.{order}
@@ -33,17 +35,46 @@ before-strict g h (inl p) (inr q) = omega arith
 before-strict g h (inr p) (inl q) = omega arith
 before-strict g h (inr p) (inr q) = omega arith
 
+pub before-trans : (g h i : ℕ) → Before g h → Before h i → Before g i
+before-trans g h i (inl p) (inl q) = inl (omega arith)
+before-trans g h i (inl p) (inr q) = inl (omega arith)
+before-trans g h i (inr p) (inl q) = inl (omega arith)
+before-trans g h i (inr p) (inr q) = inr (omega arith)
+
 before-size : (g h : ℕ) → Before g h → size h ≤ size g
 before-size g h (inl p) = omega arith
 before-size g h (inr p) = omega arith
 
+-- a list in this order has no guess twice, and larger ones first
+sorted-once : (l : List ℕ) → Pairwise Before l → Distinct l
+sorted-once l p = pairwise-map l (λ g h _ _ b e. let b′ = subst (Before g) (sym e) b in before-strict g g b′ b′) p
+
+sorted-larger-first : (l : List ℕ) → Pairwise Before l → Pairwise (λ g h. size h ≤ size g) l
+sorted-larger-first l p = pairwise-map l (λ g h _ _ b. before-size g h b) p
+
 -- a list in this order that has the guesses of k negations enumerates them
 pub sorted-enumerates : (k : ℕ) (l : List ℕ) → Pairwise Before l → ((g : ℕ) → (g among l) ↔ (g < 2 ^ k)) → Enumerates k l
-sorted-enumerates k l p f = record {
-  below = λ g. f g .0;
-  all = λ g. f g .1;
-  once = pairwise-map l (λ g h _ _ b e. let b′ = subst (Before g) (sym e) b in before-strict g g b′ b′) p;
-  larger-first = pairwise-map l (λ g h _ _ b. before-size g h b) p;
+sorted-enumerates k l p f =
+    record { below = λ g. f g .0; all = λ g. f g .1; once = sorted-once l p; larger-first = sorted-larger-first l p }
+
+-- ---- by counting: 2^k guesses of k negations, none twice, are all of them
+module _ (k : ℕ) (l : List ℕ) where
+  pub counted-enumerates : length l ≡ 2 ^ k → Below k l → Distinct l → Pairwise (λ g h. size h ≤ size g) l → Enumerates k l
+  counted-enumerates n b d p = record { below = b; all = all-numbers (2 ^ k) l n b d; once = d; larger-first = p }
+
+  pub enumerates-long : Enumerates k l → length l ≡ 2 ^ k
+  enumerates-long en =
+      as-long l (upTo (2 ^ k)) (en .once) (upTo-distinct (2 ^ k))
+      (λ g. (λ m. among-upTo (2 ^ k) .1 (en .below g m), λ m. en .all g (among-upTo (2 ^ k) .0 m)))
+      ∙ length-upTo (2 ^ k)
+
+-- the members below 2^j of an enumeration of the guesses of k negations enumerate those of j
+pub enumerates-members : (j k : ℕ) → j ≤ k → (l : List ℕ) → Enumerates k l → Enumerates j (keep (λ g. ltb g (2 ^ j)) l)
+enumerates-members j k h l en = record {
+  below = λ g m. ltb-true g (2 ^ j) (among-keep _ l .0 m .1);
+  all = λ g p. among-keep _ l .1 (en .all g (lt-of-lt-of-le p (pow-mono h)), lt-ltb g (2 ^ j) p);
+  once = pairwise-keep _ _ l (en .once);
+  larger-first = pairwise-keep _ _ l (en .larger-first);
 }
 
 -- the guesses of k negations and of size j
@@ -69,15 +100,23 @@ order-sorted k =
 pub order-enumerates : (k : ℕ) → Enumerates k (order k)
 order-enumerates k = sorted-enumerates k (order k) (order-sorted k) (λ g. among-order k)
 
+pub order-long : (k : ℕ) → length (order k) ≡ 2 ^ k
+order-long k = enumerates-long k (order k) (order-enumerates k)
+
 -- any list in this order that has the guesses of k negations is the order
 pub order-only : (k : ℕ) (l : List ℕ) → Pairwise Before l → ((g : ℕ) → (g among l) ↔ (g < 2 ^ k)) → l ≡ order k
 order-only k l p f =
     sorted-same Before before-strict l (order k) p (order-sorted k) (λ g. (λ m. among-order k .1 (f g .0 m), λ m. f g .1 (among-order k .0 m)))
 
+-- a list is the order exactly when it is 2^k guesses of k negations in this order
+pub order-counted : (k : ℕ) (l : List ℕ) → ((length l ≡ 2 ^ k) × (Below k l × Pairwise Before l)) ↔ (l ≡ order k)
+order-counted k l = (
+  λ (n, (b, p)). let en = counted-enumerates k l n b (sorted-once l p) (sorted-larger-first l p) in order-only k l p (λ g. (b g, en .all g)),
+  λ e. subst (λ z. (length z ≡ 2 ^ k) × (Below k z × Pairwise Before z)) (sym e) (order-long k, (order-enumerates k .below, order-sorted k)),
+)
+
 -- "for smaller k its members below 2^k are taken"
 pub order-members : (j k : ℕ) → j ≤ k → keep (λ g. ltb g (2 ^ j)) (order k) ≡ order j
 order-members j k h =
-    order-only j (keep (λ g. ltb g (2 ^ j)) (order k)) (pairwise-keep _ _ (order k) (order-sorted k)) (λ g. (
-      λ m. ltb-true g (2 ^ j) (among-keep _ (order k) .0 m .1),
-      λ l. among-keep _ (order k) .1 (among-order k .1 (lt-of-lt-of-le l (pow-mono h)), lt-ltb g (2 ^ j) l),
-    ))
+    let en = enumerates-members j k h (order k) (order-enumerates k) in
+    order-only j (keep (λ g. ltb g (2 ^ j)) (order k)) (pairwise-keep _ _ (order k) (order-sorted k)) (λ g. (en .below g, en .all g))

@@ -2,23 +2,17 @@
 use Prim.Native.Nat.{ℕ, _^_, _<_}
 use mathlib.Core.Path.{_≡_, refl, sym, subst}
 use mathlib.Core.Bool.{Bool, not}
-use mathlib.Core.Logic.{_↔_}
 use Rattle.sets.specs.Decides.{Decides, is-true, is-false, dec-iff, dec-not}
 use Rattle.sets.specs.Lists.{_among_, every, dec-every}
 use Rattle.sets.specs.Sets.{_∈_, _∈?_}
 use Rattle.sets.specs.Members.{dec-∈, ∈-⋃}
 use Rattle.semantics.specs.Definitions.Setting.{Setting, k}
 use Rattle.semantics.specs.Definitions.Verdict.{beliefSets, knownIn, possibleIn}
-use Rattle.semantics.specs.Definitions.Order.{order}
 use Rattle.semantics.specs.Definitions.Listing.{View, viewOf, listing}
 use Rattle.semantics.specs.Definitions.Query.{Yes, No, Open, answer, query}
 use Rattle.semantics.specs.Theorems.Verdict.{known-is, belief-below}
 use Rattle.semantics.specs.Theorems.WorldView.{WorldView}
-use Rattle.semantics.specs.Theorems.Order.{order-enumerates}
-use Rattle.semantics.specs.Theorems.Listing.{among-views}
-
-among-listing : (s : Setting) {v : View} → v among listing s ↔ ((g : ℕ) × (g < 2 ^ k s) × WorldView s g × (v ≡ viewOf s g))
-among-listing s = among-views s (order (k s)) (order-enumerates (k s))
+use Rattle.semantics.specs.Theorems.Listing.{views-of}
 
 -- P of every belief set of every world view
 abbrev pub InAll : Setting → (ℕ → Type 0) → Type 0
@@ -30,10 +24,10 @@ over-views : (s : Setting) (P : ℕ → Type 0) (f : View → Bool)
 over-views s P f d =
     let Q : View → Type 0 = λ v. (i : ℕ) → i among beliefSets s (v .guess) → P i in
     dec-iff (
-      λ h g l w. h (viewOf s g) (among-listing s .1 (g, l, w, refl)),
-      λ h v m. let (g, l, w, e) = among-listing s .0 m in subst Q (sym e) (h g l w),
+      λ h g l w. h (viewOf s g) (views-of s .exactly .1 (g, l, w, refl)),
+      λ h v m. let (g, l, w, e) = views-of s .exactly .0 m in subst Q (sym e) (h g l w),
     ) (dec-every f Q (listing s)
-    (λ v m. let (g, l, w, e) = among-listing s .0 m in subst (λ x. Decides (Q x) (f x)) (sym e) (d g l w)))
+    (λ v m. let (g, l, w, e) = views-of s .exactly .0 m in subst (λ x. Decides (Q x) (f x)) (sym e) (d g l w)))
 
 module _ (s : Setting) (a : ℕ) where
   -- known in every world view

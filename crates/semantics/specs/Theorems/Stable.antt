@@ -1,12 +1,15 @@
--- 002: the test `stable` decides "a model of the reduced program of which no proper subset is a model". Assumes nothing.
-use Prim.Native.Nat.{ℕ, _^_, _<_}
+-- 002: the test `stable` decides whether a set is a model of the reduced program of which no proper subset is a model. Assumes nothing.
+use Prim.Native.Nat.{ℕ, _^_, _≤_, _<_}
 use mathlib.Core.Path.{refl, sym, subst}
 use mathlib.Core.Bool.{Bool}
 use mathlib.Core.List.{List, map}
 use mathlib.Core.Logic.{_↔_}
+use native.Mathlib.Omega.{arith}
+use lib.ListN.{length}
 use Rattle.sets.specs.Decides.{Decides, is-true, dec-iff, dec-not, dec-and, dec-imp}
-use Rattle.sets.specs.Lists.{_among_, keep, among-keep, among-kept, among-map, upTo, dec-every, dec-any}
-use Rattle.sets.specs.Pairwise.{Pairwise, pairwise-keep, upTo-rising}
+use Rattle.sets.specs.Lists.{_among_, keep, among-keep, among-kept, among-map, upTo, among-upTo, length-upTo, dec-every, dec-any}
+use Rattle.sets.specs.Pairwise.{Pairwise, pairwise-map, pairwise-keep, upTo-rising}
+use Rattle.sets.specs.Counting.{no-longer}
 use Rattle.sets.specs.Sets.{_⊆_, _⊂_, Meets}
 use Rattle.sets.specs.Members.{∈-∅, ∅-⊆, dec-⊆, dec-⊂, dec-meets, ⊂-less}
 use Rattle.semantics.specs.Definitions.Rules.{Rule}
@@ -64,6 +67,14 @@ among-belief-sets s g = among-stable-sets (s .atoms) (s .program g)
 pub belief-sets-rising : (s : Setting) (g : ℕ) → Pairwise _<_ (beliefSets s g)
 unfolding beliefSets stableSets
 belief-sets-rising s g = pairwise-keep _ _ (upTo (2 ^ s .atoms)) (upTo-rising (2 ^ s .atoms))
+
+-- no more than there are sets of atoms
+pub belief-sets-few : (s : Setting) (g : ℕ) → length (beliefSets s g) ≤ 2 ^ s .atoms
+belief-sets-few s g =
+    let n = 2 ^ s .atoms in
+    subst (λ m. length (beliefSets s g) ≤ m) (length-upTo n)
+    (no-longer (beliefSets s g) (upTo n) (pairwise-map (beliefSets s g) (λ i j _ _ l e. omega arith) (belief-sets-rising s g))
+    (λ i m. among-upTo n .1 (among-belief-sets s g .0 m .0)))
 
 -- ---- the reduced program's models, by the rules of the program itself
 abbrev pub ReducedModel : List Rule → (i j : ℕ) → Type 0

@@ -1,14 +1,15 @@
 -- The walk along any list that enumerates the guesses, larger ones first, meets exactly the views of the world views, in the list's order,
 -- and its six numbers are those of the definitions. Assumes nothing.
-use Prim.Native.Nat.{ℕ, _+_, _^_, _≤_, _<_}
+use Prim.Native.Nat.{ℕ, suc, _+_, _^_, _≤_, _<_}
 use mathlib.Core.Path.{_≡_, refl, sym, ap, _∙_, subst}
 use mathlib.Core.Bool.{Bool, true, false, not, _&&_, cond}
 use mathlib.Core.List.{List, [], _∷_, _++_, foldl, map, append-nil, append-assoc, map-append}
 use mathlib.Core.Logic.{inl, ⊎-elim}
+use native.Mathlib.Numerals.{add-one}
 use native.Mathlib.Omega.{arith}
 use lib.ListN.{length, length-append}
 use Rattle.sets.specs.Decides.{is-true, dec-one, dec-iff}
-use Rattle.sets.specs.Lists.{_among_, first-or-later, among-append, among-middle, some, keep, among-keep, among-map, keep-snoc, only, dec-some, among-upTo}
+use Rattle.sets.specs.Lists.{_among_, first-or-later, among-append, among-middle, some, keep, among-keep, among-map, keep-snoc, only, dec-some, foldl-snoc, among-upTo}
 use Rattle.sets.specs.Pairwise.{Pairwise, pairwise-keep, pairwise-suffix, upTo-distinct}
 use Rattle.sets.specs.Counting.{as-long}
 use Rattle.sets.specs.Sets.{_⊂_, Below, _⊂?_, size}
@@ -17,11 +18,33 @@ use Rattle.sets.specs.Size.{size-⊂}
 use Rattle.semantics.specs.Definitions.Setting.{Setting, k, guesses}
 use Rattle.semantics.specs.Definitions.Verdict.{Verdict, empty, other, verified, verdict, isEmpty, isOther, isVerified}
 use Rattle.semantics.specs.Definitions.Propagation.{contradicted}
-use Rattle.semantics.specs.Definitions.Listing.{isWorldView, covered, ruled, tested, testedEmpty, testedOther, tallyBy, tallyOf, viewOf, viewsAlong}
-use Rattle.semantics.specs.Walk.{Walked, more, viewBy, advance, walk}
+use Rattle.semantics.specs.Definitions.Listing.{Tally, isWorldView, covered, ruled, tested, testedEmpty, testedOther, tallyBy, tallyOf, viewOf, viewsAlong}
+use Rattle.semantics.specs.Walk.{Walked, start, judgedAs, outcomeBy, countedBy, viewsBy, outcome, advance, walk}
 use Rattle.semantics.specs.Theorems.Verdict.{verified-verdict}
 use Rattle.semantics.specs.Theorems.WorldView.{definition-6, dec-covered, tested-is, view-tested}
 use Rattle.semantics.specs.Theorems.Order.{Enumerates}
+
+-- ---- the step by tests
+abbrev more : Bool → ℕ → ℕ
+more b n = cond b (suc n) n
+
+-- one guess more, by whether it is covered, whether it is contradicted, and its verdict
+abbrev counted : Tally → (covered contradicted : Bool) → Verdict → Tally
+counted t c r v = record {
+  views = more (not c && not r && isVerified v) (t .views);
+  covered = more c (t .covered);
+  ruled = more (not c && r) (t .ruled);
+  tested = more (not c && not r) (t .tested);
+  empty = more (not c && not r && isEmpty v) (t .empty);
+  other = more (not c && not r && isOther v) (t .other);
+}
+
+by-tests : (t : Tally) (g : ℕ) (c r : Bool) (v : Verdict) → countedBy t (outcomeBy g c r v) ≡ counted t c r v
+by-tests t g true r v = cc (add-one (t .covered))
+by-tests t g false true v = cc (add-one (t .ruled))
+by-tests t g false false empty = cc (add-one (t .tested), add-one (t .empty))
+by-tests t g false false (other found) = cc (add-one (t .tested), add-one (t .other))
+by-tests t g false false (verified known possible sets) = cc (add-one (t .tested), add-one (t .views))
 
 -- the number of those that pass, with one more at the end
 more-kept : (f : ℕ → Bool) (l : List ℕ) (x : ℕ) {b : Bool} → b ≡ f x → more b (length (keep f l)) ≡ length (keep f (l ++ x ∷ []))
@@ -31,15 +54,22 @@ more-kept f l x {b} e = go b ∙ sym (rw e (ap length (keep-snoc f l x) ∙ leng
     go true = omega arith
     go false = omega arith
 
--- the view that a verdict gives is the world view's
-viewBy-is : (s : Setting) (g : ℕ) (t : Bool) → cond t (viewBy g (verdict s g)) [] ≡ map (viewOf s) (only (t && isVerified (verdict s g)) g)
-viewBy-is s g false = refl
-viewBy-is s g true = go (verdict s g) (verified-verdict s g)
+-- the view that it adds is the world view's
+views-are : (s : Setting) (g : ℕ) (c r : Bool) → viewsBy (outcomeBy g c r (verdict s g)) ≡ map (viewOf s) (only (not c && not r && isVerified (verdict s g)) g)
+views-are s g true r = refl
+views-are s g false true = refl
+views-are s g false false = go (verdict s g) (verified-verdict s g)
   where
-    go : (v : Verdict) → (isVerified v ≡ true → v ≡ verified (viewOf s g .known) (viewOf s g .possible) (viewOf s g .sets)) → viewBy g v ≡ map (viewOf s) (only (isVerified v) g)
+    go : (v : Verdict) → (isVerified v ≡ true → v ≡ verified (viewOf s g .known) (viewOf s g .possible) (viewOf s g .sets))
+        → viewsBy (judgedAs g v) ≡ map (viewOf s) (only (isVerified v) g)
     go empty e = refl
     go (other found) e = refl
-    go (verified known possible sets) e = ap (viewBy g) (e refl)
+    go (verified known possible sets) e = ap (λ v. viewsBy (judgedAs g v)) (e refl)
+
+-- the walk over one guess more
+pub walk-more : (s : Setting) (l : List ℕ) (g : ℕ) → walk s (l ++ g ∷ []) ≡ advance s (walk s l) g
+unfolding walk
+walk-more s l g = foldl-snoc (advance s) start l g
 
 module _ (s : Setting) where
   -- what the walk is to have after the guesses d
@@ -58,25 +88,28 @@ module _ (s : Setting) where
     sees-view : not (seen d g) && not (contradicted s g) && isVerified (verdict s g) ≡ isWorldView s g
     sees-view = ap (λ t. t && isVerified (verdict s g)) sees-tested ∙ sym (view-tested s g l)
 
-    met-more : viewsAlong s d ++ cond (not (seen d g) && not (contradicted s g)) (viewBy g (verdict s g)) [] ≡ viewsAlong s (d ++ g ∷ [])
+    met-more : viewsAlong s d ++ viewsBy (outcome s (viewsAlong s d) g) ≡ viewsAlong s (d ++ g ∷ [])
     unfolding viewsAlong
     met-more =
-        ap (λ vs. viewsAlong s d ++ vs) (viewBy-is s g (not (seen d g) && not (contradicted s g)) ∙ ap (λ b. map (viewOf s) (only b g)) sees-view)
+        ap (λ vs. viewsAlong s d ++ vs) (views-are s g (seen d g) (contradicted s g) ∙ ap (λ b. map (viewOf s) (only b g)) sees-view)
         ∙ sym (ap (map (viewOf s)) (keep-snoc (isWorldView s) d g) ∙ map-append (viewOf s) (keep (isWorldView s) d) (only (isWorldView s g) g))
+
+    tally-more : counted (meant d .tally) (seen d g) (contradicted s g) (verdict s g) ≡ meant (d ++ g ∷ []) .tally
+    unfolding meant
+    tally-more i = record {
+      views = more-kept (isWorldView s) d g sees-view i;
+      covered = more-kept (covered s) d g sees i;
+      ruled = more-kept (ruled s) d g (ap (λ c. not c && contradicted s g) sees) i;
+      tested = more-kept (tested s) d g sees-tested i;
+      empty = more-kept (testedEmpty s) d g (ap (λ t. t && isEmpty (verdict s g)) sees-tested) i;
+      other = more-kept (testedOther s) d g (ap (λ t. t && isOther (verdict s g)) sees-tested) i;
+    }
 
     meant-more : advance s (meant d) g ≡ meant (d ++ g ∷ [])
     unfolding meant
-    meant-more i = record {
-      met = met-more i;
-      tally = record {
-        views = more-kept (isWorldView s) d g sees-view i;
-        covered = more-kept (covered s) d g sees i;
-        ruled = more-kept (ruled s) d g (ap (λ c. not c && contradicted s g) sees) i;
-        tested = more-kept (tested s) d g sees-tested i;
-        empty = more-kept (testedEmpty s) d g (ap (λ t. t && isEmpty (verdict s g)) sees-tested) i;
-        other = more-kept (testedOther s) d g (ap (λ t. t && isOther (verdict s g)) sees-tested) i;
-      };
-    }
+    meant-more =
+        let t = by-tests (meant d .tally) g (seen d g) (contradicted s g) (verdict s g) ∙ tally-more in
+        λ i. record { met = met-more i; tally = t i }
 
   module _ (l : List ℕ) (en : Enumerates (k s) l) where
     -- a proper superset of g stands before it

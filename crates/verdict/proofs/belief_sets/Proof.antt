@@ -1,6 +1,7 @@
 -- `verdict::belief_sets` meets its contract. Assumes nothing.
 use native.Mathlib.Omega.{arith}
-use Rattle.verdict.proofs.Judging.{room, gathered}
+use Rattle.guess.specs.Accepted.{few-opened, few-sets}
+use Rattle.verdict.proofs.Judging.{gathered}
 use borrow.Author.Needs.{needs}
 use Rattle.verdict.proofs.belief_sets.Statement.{statement}
 use Rattle.verdict.proofs.belief_sets.Tie as tie
@@ -18,7 +19,8 @@ stable-sets-requires : tie.Need-stable-sets-requires
 stable-sets-requires c κs =
     let a = c .before .before .before .before .before .before .before .args in
     let pre = c .before .before .before .before .before .before .before .pre in
-    let (few, small) = room (a .s .now) (a .x) (pre .0) in
+    let few = few-opened (a .s .now) (a .x) (pre .0) .0 in
+    let small = few-sets (a .s .now) (a .x) (pre .0) in
     (search needs, c .before .before .before .reduct .ensures .1 .0, few, omega (arith, small, pre .1))
 
 same-length : tie.Need-same-length
@@ -31,7 +33,7 @@ returns c =
     let sets = c .before .before .stable-sets .ensures in
     let reduct = c .before .before .before .before .before .before .reduct .ensures .1 .1 in (
       sets .0,
-      (omega (arith, sets .1 .0, room (a .s .now) (a .x) (pre .0) .1, pre .1), gathered (a .s .now) (a .x) (pre .0) (a .guess) _ reduct (sets .1 .1)),
+      (omega (arith, sets .1 .0, few-sets (a .s .now) (a .x) (pre .0), pre .1), gathered (a .s .now) (a .x) (pre .0) (a .guess) _ reduct (sets .1 .1)),
     )
 
 pub belief-sets-spec : {M : Type 1} → statement M

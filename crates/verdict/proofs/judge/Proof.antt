@@ -1,10 +1,9 @@
 -- `verdict::judge` meets its contract. Assumes nothing.
-use mathlib.Core.Path.{ap, _∙_}
+use mathlib.Core.Path.{_∙_}
 use native.Mathlib.Omega.{arith}
 use lib.ListN.{take}
 use lib.Seq.{length-take-le}
-use Rattle.semantics.specs.Definitions.Verdict.{verdictBy}
-use Rattle.verdict.specs.Verdicts.{settingFor}
+use Rattle.semantics.specs.Words.{programIn}
 use Rattle.verdict.proofs.Judging.{decided-by}
 use borrow.Author.Needs.{needs}
 use Rattle.verdict.proofs.judge.Statement.{statement}
@@ -31,8 +30,8 @@ returns c =
     let w = c .before .before .before .before .before .before .before .stable-sets in
     let long = length-take-le (w .result) (w .last .1 .1 .1 .0) (omega (arith, w .ensures .0, w .ensures .1 .0, c .before .before .before .before .before .before .before .before .before .before .before .pre .3)) in
     c .decide .ensures
-    ∙ decided-by (a .x) (take (w .result) (w .last .1 .1 .1 .0)) (a .guess) long (c .before .before .before .known-in .ensures) (c .before .possible-in .ensures)
-    ∙ ap (λ z. verdictBy (settingFor (a .x)) z (a .guess)) (w .ensures .1 .1)
+    ∙ decided-by (a .x) (programIn (a .program .now) (a .rules)) (take (w .result) (w .last .1 .1 .1 .0)) (a .guess) (w .ensures .1 .1) long
+    (c .before .before .before .known-in .ensures) (c .before .possible-in .ensures)
 
 pub judge-spec : {M : Type 1} → statement M
 judge-spec =

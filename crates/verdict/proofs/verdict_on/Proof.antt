@@ -1,7 +1,7 @@
 -- `verdict::verdict_on` meets its contract. Assumes nothing.
 use native.Mathlib.Omega.{arith}
-use Rattle.guess.specs.Accepted.{few-opened}
-use Rattle.verdict.proofs.Judging.{room, judged}
+use Rattle.guess.specs.Accepted.{few-opened, few-sets}
+use Rattle.verdict.proofs.Judging.{judged}
 use borrow.Author.Needs.{needs}
 use Rattle.verdict.proofs.verdict_on.Statement.{statement}
 use Rattle.verdict.proofs.verdict_on.Tie as tie
@@ -19,7 +19,7 @@ judge-requires : tie.Need-judge-requires
 judge-requires c κs =
     let a = c .before .before .before .before .before .before .before .args in
     let pre = c .before .before .before .before .before .before .before .pre in
-    let small = room (a .s .now) (a .x) (pre .0) .1 in
+    let small = few-sets (a .s .now) (a .x) (pre .0) in
     (search needs, c .before .before .before .reduct .ensures .1 .0, few-opened (a .s .now) (a .x) (pre .0), omega (arith, small, pre .1))
 
 same-length : tie.Need-same-length

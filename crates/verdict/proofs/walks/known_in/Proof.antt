@@ -1,10 +1,9 @@
 -- `verdict::walks::known_in` meets its contract. Assumes nothing.
 use Prim.Native.Nat.{_-_, _≤_}
-use mathlib.Core.Path.{_≡_, ap, _∙_}
+use mathlib.Core.Path.{_≡_, _∙_}
 use mathlib.Core.List.{foldl}
 use native.Mathlib.Omega.{arith}
 use lib.ListN.{take}
-use lib.Pow.{pow-pos}
 use Rattle.sets.specs.Sets.{_∩_, full}
 use Rattle.verdict.proofs.Walked.{folded}
 use borrow.Author.Needs.{needs}
@@ -17,17 +16,14 @@ Inv-loop sets n atoms all₀ i₀ all i = (i ≤ n) × (all ≡ foldl _∩_ (ful
 abbrev μ-loop : tie.MeasureT-loop
 μ-loop sets n atoms all₀ i₀ all i = n - i
 
-cast-power : tie.Need-cast-power Inv-loop μ-loop
-cast-power c = search needs
+cast-full : tie.Need-cast-full Inv-loop μ-loop
+cast-full c = search needs
 
-power-requires : tie.Need-power-requires Inv-loop μ-loop
-power-requires c κs = search needs
-
-sub-all : tie.Need-sub-all Inv-loop μ-loop
-sub-all c = omega (arith, c .power .ensures, pow-pos (c .before .before .args .atoms))
+full-requires : tie.Need-full-requires Inv-loop μ-loop
+full-requires c κs = search needs
 
 loop-holds : tie.Need-loop-holds Inv-loop μ-loop
-loop-holds c = (omega arith, ap (λ z. z - 1) (c .power .ensures))
+loop-holds c = (omega arith, c .full .ensures)
 
 mul-all : tie.Need-mul-all Inv-loop μ-loop
 mul-all c = search needs
@@ -59,9 +55,8 @@ known-in-spec =
     (tie.spec
     Inv-loop
     μ-loop
-    cast-power
-    power-requires
-    sub-all
+    cast-full
+    full-requires
     loop-holds
     mul-all
     shared-slice-read-all
