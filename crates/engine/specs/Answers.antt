@@ -4,12 +4,15 @@ use mathlib.Core.Path.{_≡_, refl, sym, ap, _∙_}
 use Rattle.semantics.specs.Definitions.Check.{Numbers}
 use Rattle.semantics.specs.Definitions.Returned.{Returned, accepted, refusal}
 use Rattle.semantics.specs.Definitions.Verdict as meant
+use Rattle.semantics.specs.Definitions.Listing.{Tally}
 use Rattle.engine.specs.declared.Checked.{Checked}
 use Rattle.engine.specs.declared.Checked.the-variants.{Accepted, Refused}
 use Rattle.engine.specs.declared.Judged.{Judged}
 use Rattle.engine.specs.declared.Judged.the-variants as judgements
 use Rattle.engine.specs.declared.Counted.{Counted}
 use Rattle.engine.specs.declared.Counted.the-variants as counts
+use Rattle.engine.specs.declared.Listed.{Listed}
+use Rattle.engine.specs.declared.Listed.the-variants as listings
 
 -- "The check of an accepted sheet answers with the numbers of atoms, of rules and of negations"
 abbrev pub checked : Checked → Returned Numbers
@@ -28,6 +31,12 @@ abbrev pub counted : Counted → Returned ℕ
 counted (counts.Accepted count) = accepted count
 counted (counts.Refused number place) = refusal number place
 
+-- "The result has views, covered, ruled, tested, empty, other."
+abbrev pub listed : Listed → Returned Tally
+listed (listings.Accepted views covered ruled tested empty other) =
+    accepted (record { views = views; covered = covered; ruled = ruled; tested = tested; empty = empty; other = other })
+listed (listings.Refused number place) = refusal number place
+
 -- What an answer means fixes it: no two answers mean the same.
 answerChecked : Returned Numbers → Checked
 answerChecked (accepted v) = Accepted (v .atoms) (v .rules) (v .negations)
@@ -42,6 +51,10 @@ answerJudged (refusal number place) = judgements.Refused number place
 answerCounted : Returned ℕ → Counted
 answerCounted (accepted count) = counts.Accepted count
 answerCounted (refusal number place) = counts.Refused number place
+
+answerListed : Returned Tally → Listed
+answerListed (accepted t) = listings.Accepted (t .views) (t .covered) (t .ruled) (t .tested) (t .empty) (t .other)
+answerListed (refusal number place) = listings.Refused number place
 
 checked-back : (r : Checked) → answerChecked (checked r) ≡ r
 unfolding answerChecked
@@ -60,6 +73,11 @@ unfolding answerCounted
 counted-back (counts.Accepted count) = refl
 counted-back (counts.Refused number place) = refl
 
+listed-back : (r : Listed) → answerListed (listed r) ≡ r
+unfolding answerListed
+listed-back (listings.Accepted views covered ruled tested empty other) = refl
+listed-back (listings.Refused number place) = refl
+
 pub checked-fixed : (r q : Checked) → checked r ≡ checked q → r ≡ q
 checked-fixed r q e = sym (checked-back r) ∙ ap answerChecked e ∙ checked-back q
 
@@ -68,3 +86,6 @@ judged-fixed r q e = sym (judged-back r) ∙ ap answerJudged e ∙ judged-back q
 
 pub counted-fixed : (r q : Counted) → counted r ≡ counted q → r ≡ q
 counted-fixed r q e = sym (counted-back r) ∙ ap answerCounted e ∙ counted-back q
+
+pub listed-fixed : (r q : Listed) → listed r ≡ listed q → r ≡ q
+listed-fixed r q e = sym (listed-back r) ∙ ap answerListed e ∙ listed-back q

@@ -1,3 +1,4 @@
 -- What the answers of the calls mean, and the demands that they meet.
 pub mod Answers
 pub mod Demand2
+pub mod Demand3

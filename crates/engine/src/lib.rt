@@ -3,6 +3,8 @@
 mod lent;
 
 use lent::write;
+use listing::records::write_records;
+use listing::walk;
 use sets::power;
 use sheet::Opened;
 use sheet::open;
@@ -12,10 +14,12 @@ use verdict::verdict_on;
 ghost use mathlib.Core.Path.{_≡_};
 ghost use lib.ListN.{length};
 ghost use Rattle.semantics.specs.Definitions.Check.{check as checkOf};
-ghost use Rattle.semantics.specs.Definitions.Returned.{afterwards};
-ghost use Rattle.semantics.specs.Definitions.Calls.{openedFor, verdictCall, beliefSetsCall, withCount};
+ghost use Rattle.semantics.specs.Definitions.Returned.{answer, afterwards};
+ghost use Rattle.semantics.specs.Definitions.Calls.{openedFor, verdictCall, beliefSetsCall, listCall, recordsOf};
 ghost use Rattle.sheet.specs.Opened.{openedOf};
-ghost use Rattle.engine.specs.Answers.{checked, judged, counted};
+ghost use Rattle.engine.specs.Answers.{checked, judged, counted, listed};
+ghost use Rattle.engine.specs.Demand2.{VerdictDemand, SetsDemand};
+ghost use Rattle.engine.specs.Demand3.{ListingDemand};
 
 // What the check answers: the numbers of atoms, of rules and of negations, or a refusal by its number and place.
 pub enum Checked {
@@ -54,6 +58,23 @@ pub enum Counted {
     Refused { number: u8, place: usize },
 }
 
+// What the listing answers: how many guesses are views, covered, ruled, tested, empty and other. Or a refusal by its number and place (for 9:
+// the number of views).
+pub enum Listed {
+    Accepted {
+        views: usize,
+        covered: usize,
+        ruled: usize,
+        tested: usize,
+        empty: usize,
+        other: usize,
+    },
+    Refused {
+        number: u8,
+        place: usize,
+    },
+}
+
 // Checks a sheet: refusals 1 to 7.
 pub fn check(sheet: &[u8]) -> Checked
     ensures { λ r. ⌜ checked r ≡ checkOf (now (sheet .entry)) ⌝ }
@@ -85,6 +106,7 @@ fn open_for(sheet: &[u8], guess: u16) -> Opened
 // The verdict on a guess: refusals 1 to 8.
 pub fn verdict(sheet: &[u8], guess: u16) -> Judged
     ensures { λ r. ⌜ judged r ≡ verdictCall (now (sheet .entry)) guess ⌝ }
+    ensures { λ r. ⌜ VerdictDemand (now (sheet .entry)) guess r ⌝ }
 {
     match open_for(sheet, guess) {
         Opened::Accepted(x) => {
@@ -105,8 +127,9 @@ pub fn verdict(sheet: &[u8], guess: u16) -> Judged
 
 // The belief sets of a guess, by rising number, into a lent buffer: refusals 1 to 8, then 9.
 pub fn belief_sets(sheet: &[u8], guess: u16, out: &mut [u16]) -> Counted
-    ensures { λ r. ⌜ counted r ≡ withCount (beliefSetsCall (now (sheet .entry)) guess (length (now (out .entry)))) ⌝ }
+    ensures { λ r. ⌜ counted r ≡ answer length (beliefSetsCall (now (sheet .entry)) guess (length (now (out .entry)))) ⌝ }
     ensures { λ r. ⌜ now (out .exit) ≡ afterwards (λ w. w) (beliefSetsCall (now (sheet .entry)) guess (length (now (out .entry)))) (now (out .entry)) ⌝ }
+    ensures { λ r. ⌜ SetsDemand (now (sheet .entry)) guess r (now (out .entry)) (now (out .exit)) ⌝ }
 {
     match open_for(sheet, guess) {
         Opened::Accepted(x) => {
@@ -122,5 +145,35 @@ pub fn belief_sets(sheet: &[u8], guess: u16, out: &mut [u16]) -> Counted
             Counted::Accepted { count: n }
         }
         Opened::Refused(number, place) => Counted::Refused { number, place },
+    }
+}
+
+// The listing: a record of four words for each world view, in the order, into a lent buffer, and the six counts. Refusals 1 to 7, then 9.
+pub fn list(sheet: &[u8], out: &mut [u16]) -> Listed
+    ensures { λ r. ⌜ listed r ≡ answer (λ v. v .tally) (listCall (now (sheet .entry)) (length (now (out .entry)))) ⌝ }
+    ensures { λ r. ⌜ now (out .exit) ≡ afterwards recordsOf (listCall (now (sheet .entry)) (length (now (out .entry)))) (now (out .entry)) ⌝ }
+    ensures { λ r. ⌜ ListingDemand (now (sheet .entry)) r (now (out .entry)) (now (out .exit)) ⌝ }
+{
+    match open(sheet) {
+        Opened::Accepted(x) => {
+            let mut records = [0u16; 16384];
+            let t = walk(sheet, x, &mut records[..]);
+            if out.len() < 4 * t.views {
+                return Listed::Refused {
+                    number: 9,
+                    place: t.views,
+                };
+            }
+            write_records(&records[..], t.views, &mut out[..]);
+            Listed::Accepted {
+                views: t.views,
+                covered: t.covered,
+                ruled: t.ruled,
+                tested: t.tested,
+                empty: t.empty,
+                other: t.other,
+            }
+        }
+        Opened::Refused(number, place) => Listed::Refused { number, place },
     }
 }

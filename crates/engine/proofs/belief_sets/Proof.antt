@@ -5,7 +5,8 @@ use lib.Seq.{length-take-le}
 use native.Mathlib.Omega.{arith}
 use Rattle.semantics.specs.Definitions.Returned.{refusal}
 use Rattle.semantics.specs.Definitions.Calls.{beliefSetsCall}
-use Rattle.engine.proofs.Laws.{turned-back, opened-too, sets-returned, too-short, kept, filled}
+use Rattle.engine.specs.declared.Counted.the-variants.{Accepted, Refused}
+use Rattle.engine.proofs.Laws.{turned-back, opened-too, sets-returned, too-short, kept, filled, sets-met}
 use borrow.Author.Needs.{needs}
 use Rattle.engine.proofs.belief_sets.Statement.{statement}
 use Rattle.engine.proofs.belief_sets.Tie as tie
@@ -31,8 +32,9 @@ returns c =
     let told = sym answered ∙ c .before .before .before .before .before .x .given .1 in
     let w = c .before .before .belief-sets in
     let long = length-take-le (w .result) (w .last .1 .1 .1 .0) (omega (arith, w .ensures .0, w .ensures .1 .0)) in
-    kept (a .out .now) (subst (λ n. beliefSetsCall (a .sheet .now) (a .guess) (length (a .out .now)) ≡ refusal 9 n) long
-    (too-short (a .sheet .now) (a .guess) told _ (w .ensures .1 .1) (length (a .out .now)) (omega (arith, long, c .if1 .taken))))
+    sets-met (a .sheet .now) (a .guess) (a .out .now) (Refused 9 (w .result)) (a .out .now)
+    (kept length (λ w. w) (a .out .now) (subst (λ n. beliefSetsCall (a .sheet .now) (a .guess) (length (a .out .now)) ≡ refusal 9 n) long
+    (too-short (a .sheet .now) (a .guess) told _ (w .ensures .1 .1) (length (a .out .now)) (omega (arith, long, c .if1 .taken)))))
 
 slice-aggregate-write : tie.Need-slice-aggregate-write
 slice-aggregate-write c = search needs
@@ -53,16 +55,18 @@ returns-2 c =
     let told = sym answered ∙ c .before .before .before .before .before .before .before .before .before .before .x .given .1 in
     let w = c .before .before .before .before .before .before .before .belief-sets in
     let long = length-take-le (w .result) (w .last .1 .1 .1 .0) (omega (arith, w .ensures .0, w .ensures .1 .0)) in
-    filled (a .out .now)
+    sets-met (a .sheet .now) (a .guess) (a .out .now) (Accepted (w .result)) _
+    (filled length (λ w. w) (a .out .now)
     (sets-returned (a .sheet .now) (a .guess) told _ (w .ensures .1 .1) (length (a .out .now))
     (omega (arith, long, c .before .before .before .before .before .if1 .left)))
-    long (c .before .before .write .ensures)
+    long (c .before .before .write .ensures))
 
 returns-3 : tie.Need-returns-3
 unfolding beliefSetsCall
 returns-3 c =
     let a = c .before .before .before .before .before .before .args in
-    kept (a .out .now) (sym (turned-back (a .sheet .now) (a .guess) _ (sym (c .before .before .before .open-for .ensures) ∙ c .before .number .given .1)))
+    sets-met (a .sheet .now) (a .guess) (a .out .now) (Refused _ _) (a .out .now)
+    (kept length (λ w. w) (a .out .now) (sym (turned-back (a .sheet .now) (a .guess) _ (sym (c .before .before .before .open-for .ensures) ∙ c .before .number .given .1))))
 
 pub belief-sets-spec : {M : Type 1} → statement M
 belief-sets-spec =

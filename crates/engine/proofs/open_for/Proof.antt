@@ -2,7 +2,8 @@
 use mathlib.Core.Path.{sym, _∙_}
 use native.Mathlib.Omega.{arith}
 use borrow.Author.Needs.{needs}
-use Rattle.engine.proofs.Laws.{still-refused, few, not-below, below}
+use Rattle.guess.specs.Accepted.{few-negations}
+use Rattle.engine.proofs.Laws.{still-refused, not-below, below}
 use Rattle.engine.proofs.open_for.Statement.{statement}
 use Rattle.engine.proofs.open_for.Tie as tie
 
@@ -24,13 +25,13 @@ returns c =
 cast-power : tie.Need-cast-power
 cast-power c =
     let a = c .before .before .before .before .before .before .args in
-    let h = few (a .sheet .now) (a .guess) (sym (c .before .before .before .before .«open» .ensures) ∙ c .before .before .opened .given .1) in
+    let h = few-negations (a .sheet .now) _ (sym (c .before .before .before .before .«open» .ensures) ∙ c .before .before .opened .given .1) in
     omega (arith, h)
 
 power-requires : tie.Need-power-requires
 power-requires c κs =
     let a = c .before .before .before .before .before .before .args in
-    let h = few (a .sheet .now) (a .guess) (sym (c .before .before .before .before .«open» .ensures) ∙ c .before .before .opened .given .1) in
+    let h = few-negations (a .sheet .now) _ (sym (c .before .before .before .before .«open» .ensures) ∙ c .before .before .opened .given .1) in
     omega (arith, h)
 
 returns-2 : tie.Need-returns-2

@@ -1,7 +1,8 @@
 -- `engine::verdict` meets its contract. Assumes nothing.
 use mathlib.Core.Path.{sym, _∙_}
 use Rattle.semantics.specs.Definitions.Calls.{verdictCall}
-use Rattle.engine.proofs.Laws.{turned-back, opened-too, judged-as}
+use Rattle.engine.specs.declared.Judged.the-variants.{Empty, Other, Verified, Refused}
+use Rattle.engine.proofs.Laws.{turned-back, opened-too, judged-as, verdict-met}
 use borrow.Author.Needs.{needs}
 use Rattle.engine.proofs.verdict.Statement.{statement}
 use Rattle.engine.proofs.verdict.Tie as tie
@@ -37,27 +38,28 @@ returns c =
     let a = c .before .before .before .before .before .before .before .before .before .before .args in
     let answered = c .before .before .before .before .before .before .before .before .open-for .ensures in
     let told = sym answered ∙ c .before .before .before .before .before .before .x .given .1 in
-    judged-as (a .sheet .now) (a .guess) told (c .before .before .before .verdict-on .ensures) (c .enum-told .given .1)
+    verdict-met (a .sheet .now) (a .guess) Empty (judged-as (a .sheet .now) (a .guess) told (c .before .before .before .verdict-on .ensures) (c .enum-told .given .1))
 
 returns-2 : tie.Need-returns-2
 returns-2 c =
     let a = c .before .before .before .before .before .before .before .before .before .before .before .args in
     let answered = c .before .before .before .before .before .before .before .before .before .open-for .ensures in
     let told = sym answered ∙ c .before .before .before .before .before .before .before .x .given .1 in
-    judged-as (a .sheet .now) (a .guess) told (c .before .before .before .before .verdict-on .ensures) (c .before .found .given .1)
+    verdict-met (a .sheet .now) (a .guess) (Other _) (judged-as (a .sheet .now) (a .guess) told (c .before .before .before .before .verdict-on .ensures) (c .before .found .given .1))
 
 returns-3 : tie.Need-returns-3
 returns-3 c =
     let a = c .before .before .before .before .before .before .before .before .before .before .before .args in
     let answered = c .before .before .before .before .before .before .before .before .before .open-for .ensures in
     let told = sym answered ∙ c .before .before .before .before .before .before .before .x .given .1 in
-    judged-as (a .sheet .now) (a .guess) told (c .before .before .before .before .verdict-on .ensures) (c .before .known .given .1)
+    verdict-met (a .sheet .now) (a .guess) (Verified _ _ _) (judged-as (a .sheet .now) (a .guess) told (c .before .before .before .before .verdict-on .ensures) (c .before .known .given .1))
 
 returns-4 : tie.Need-returns-4
 unfolding verdictCall
 returns-4 c =
     let a = c .before .before .before .before .before .args in
-    turned-back (a .sheet .now) (a .guess) _ (sym (c .before .before .before .open-for .ensures) ∙ c .before .number .given .1)
+    verdict-met (a .sheet .now) (a .guess) (Refused _ _)
+    (turned-back (a .sheet .now) (a .guess) _ (sym (c .before .before .before .open-for .ensures) ∙ c .before .number .given .1))
 
 pub verdict-spec : {M : Type 1} → statement M
 verdict-spec =

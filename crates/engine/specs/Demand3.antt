@@ -1,0 +1,85 @@
+-- Demand 3, of the answer of the call `list`. Assumes nothing.
+use Prim.Native.Nat.{ℕ, _*_, _≤_, _<_}
+use mathlib.Core.Path.{_≡_, sym, ap, _∙_, subst}
+use mathlib.Core.List.{List, _++_}
+use mathlib.Core.Logic.{inl}
+use native.Mathlib.Omega.{arith}
+use lib.ListN.{length, drop}
+use lib.Seq.{drop-at}
+use Rattle.semantics.specs.Definitions.Reading.{refused}
+use Rattle.semantics.specs.Definitions.Setting.{Setting}
+use Rattle.semantics.specs.Definitions.Check.{opened}
+use Rattle.semantics.specs.Definitions.Returned.{Returned, accepted, refusal, answer, afterwards}
+use Rattle.semantics.specs.Definitions.Listing.{Tally, listing, words}
+use Rattle.semantics.specs.Definitions.Calls.{Result, resultOf, listCall, recordsOf}
+use Rattle.semantics.specs.Theorems.Returned.{SheetOf, fits-limited, short-limited, answer-accepted, answer-refused}
+use Rattle.semantics.specs.Theorems.Tally.{Number, number-only, TallyOf, tally-of}
+use Rattle.semantics.specs.Theorems.WorldView.{WorldView}
+use Rattle.semantics.specs.Theorems.Listing.{views-of, listing-long}
+use Rattle.semantics.specs.Theorems.Records.{RecordsOf, records-of, words-long}
+use Rattle.semantics.specs.Theorems.ListCall.{result-given, result-says, list-refused}
+use Rattle.engine.specs.declared.Listed.{Listed}
+use Rattle.engine.specs.declared.Listed.the-variants.{Refused}
+use Rattle.engine.specs.Answers.{listed, listed-fixed}
+
+-- what `list` leaves where it answers the six numbers t
+pub record RecordsWritten (sheet : List ℕ) (t : Tally) (before after : List ℕ) : Type 0 where
+  pub of : Setting
+  pub sheet-of : SheetOf sheet of
+  -- one record for each world view and no other, in the order
+  pub records : RecordsOf of (t .views) after
+  -- words after the last record kept
+  pub rest : drop (4 * t .views) after ≡ drop (4 * t .views) before
+  pub fits : 4 * t .views ≤ length before
+  -- six counts that are the numbers of guesses of these names, and the two sums
+  pub tally : TallyOf of t
+
+-- of a sheet: r is what `list` answers where it is lent `before`, and leaves `after`
+pub record ListingDemand (sheet : List ℕ) (r : Listed) (before after : List ℕ) : Type 0 where
+  pub listing-written : (t : Tally) → listed r ≡ accepted t → RecordsWritten sheet t before after
+  -- a sheet that is refused is refused so; else 9 exactly where 4 times views is over the words, with the number of views
+  pub sheet-refused : (number place : ℕ) → opened sheet ≡ refused number place → r ≡ Refused number place
+  pub views-fit : (s : Setting) → SheetOf sheet s → (n : ℕ) → Number s (WorldView s) n → 4 * n ≤ length before → (t : Tally) × (listed r ≡ accepted t)
+  pub views-too-many : (s : Setting) → SheetOf sheet s → (n : ℕ) → Number s (WorldView s) n → length before < 4 * n → r ≡ Refused 9 n
+  -- "Every lent buffer holds what it held."
+  pub refused-keeps : (number place : ℕ) → r ≡ Refused number place → after ≡ before
+
+-- The two hypotheses are what the call ensures.
+module _ (sheet : List ℕ) (r : Listed) (before after : List ℕ)
+    (answers : listed r ≡ answer (λ v. v .tally) (listCall sheet (length before)))
+    (leaves : after ≡ afterwards recordsOf (listCall sheet (length before)) before) where
+  returned : {q : Returned Result} → listCall sheet (length before) ≡ q → listed r ≡ answer (λ v. v .tally) q
+  returned e = answers ∙ ap (answer (λ v. v .tally)) e
+
+  written : (t : Tally) → listed r ≡ accepted t → RecordsWritten sheet t before after
+  written t e =
+      let (v, d, told) = answer-accepted (λ v. v .tally) (listCall sheet (length before)) (sym answers ∙ e) in
+      let (s, h, same, fit) = result-says sheet (length before) d in
+      let left : after ≡ words (listing s) ++ drop (length (words (listing s))) before =
+      leaves ∙ ap (λ q. afterwards recordsOf q before) d ∙ ap (λ z. afterwards recordsOf (accepted z) before) same in
+      let long : length (listing s) ≡ t .views = listing-long s ∙ ap (λ z. z .views) (sym (ap (λ z. z .tally) same) ∙ told) in
+      let size : length (words (listing s)) ≡ 4 * t .views = words-long (listing s) ∙ ap (λ n. 4 * n) long in
+      record {
+        of = s;
+        sheet-of = h;
+        records = subst (λ n. RecordsOf s n after) long (subst (RecordsOf s (length (listing s))) (sym left) (records-of s (listing s) (views-of s) _));
+        rest = ap (drop (4 * t .views)) left ∙ drop-at (words (listing s)) _ (4 * t .views) size ∙ ap (λ n. drop n before) size;
+        fits = omega arith;
+        tally = subst (TallyOf s) (sym (ap (λ z. z .tally) same) ∙ told) (tally-of s);
+      }
+
+  many : (s : Setting) {n : ℕ} → Number s (WorldView s) n → n ≡ length (listing s)
+  many s m = number-only m (tally-of s .views-are) ∙ sym (listing-long s)
+
+  pub listing-demand : ListingDemand sheet r before after
+  listing-demand = record {
+    listing-written = written;
+    sheet-refused = λ number place e. listed-fixed r _ (returned (list-refused sheet (length before) number place .1 (inl e)));
+    views-fit = λ s h n m l.
+        (_, returned (result-given sheet (length before) h ∙ fits-limited _ (length before) _ (resultOf s) (subst (λ z. 4 * z ≤ length before) (many s m) l)));
+    views-too-many = λ s h n m l.
+        listed-fixed r _ (returned (result-given sheet (length before) h ∙ short-limited _ (length before) _ (resultOf s) (subst (λ z. length before < 4 * z) (many s m) l))
+        ∙ ap (refusal 9) (sym (many s m)));
+    refused-keeps = λ number place e.
+        leaves ∙ ap (λ q. afterwards recordsOf q before) (answer-refused (λ v. v .tally) (listCall sheet (length before)) (sym answers ∙ ap listed e));
+  }

@@ -1,0 +1,5 @@
+-- What the proofs cite: records in words, what a guess counts as, a step of the walk, and the walk along the order.
+pub mod Placed
+pub mod Examined
+pub mod Steps
+pub mod Along

@@ -1,0 +1,101 @@
+-- `listing::advance` meets its contract. Assumes nothing.
+use Prim.Native.Nat.{_*_}
+use mathlib.Core.Path.{refl, sym, ap, _∙_}
+use native.Mathlib.Omega.{arith}
+use lib.ListN.{length}
+use Rattle.semantics.specs.Definitions.Check.{setting}
+use Rattle.semantics.specs.Definitions.Verdict.{verdict}
+use Rattle.semantics.specs.Definitions.Propagation.{contradicted}
+use Rattle.semantics.specs.Definitions.Listing.{words}
+use Rattle.semantics.specs.Walk.{Covered, outcomeBy, viewsBy}
+use Rattle.listing.specs.Outcomes.{outcomeFrom}
+use Rattle.listing.proofs.Placed.{part-written, placed-long}
+use Rattle.listing.proofs.Steps.{words-few, covered-noted, advanced}
+use borrow.Author.Needs.{needs}
+use Rattle.listing.proofs.advance.Statement.{statement}
+use Rattle.listing.proofs.advance.Tie as tie
+
+covered-by-requires : tie.Need-covered-by-requires
+covered-by-requires c κs = search needs
+
+count-requires : tie.Need-count-requires
+count-requires c κs = search needs
+
+same-length : tie.Need-same-length
+same-length c = search needs
+
+returns : tie.Need-returns
+returns c =
+    let a = c .before .before .before .before .before .before .before .args in
+    let pre = c .before .before .before .before .before .before .before .pre in
+    let seen = sym (c .before .before .covered-by .ensures) ∙ c .before .if1 .taken in (
+      refl,
+      λ x end e.
+          advanced (setting x) (a .tally) _ (a .records .now) _ (a .guess) Covered (omega (arith, pre .1 .1))
+          (ap (λ b. outcomeBy (a .guess) b (contradicted (setting x) (a .guess)) (verdict (setting x) (a .guess))) (sym seen)) (c .count .ensures)
+          (covered-noted (4 * a .tally .views) (a .records .now)),
+    )
+
+examine-requires : tie.Need-examine-requires
+examine-requires c κs = search needs
+
+mul-note : tie.Need-mul-note
+mul-note c = search needs
+
+mul-note-2 : tie.Need-mul-note-2
+mul-note-2 c = search needs
+
+sub-note : tie.Need-sub-note
+sub-note c = search needs
+
+part-note-start : tie.Need-part-note-start
+part-note-start c = search needs
+
+part-note-end : tie.Need-part-note-end
+part-note-end c = search needs
+
+note-requires : tie.Need-note-requires
+note-requires c κs = search needs
+
+count-requires-2 : tie.Need-count-requires-2
+count-requires-2 c κs = search needs
+
+same-length-2 : tie.Need-same-length-2
+same-length-2 c = search needs
+
+same-length-3 : tie.Need-same-length-3
+same-length-3 c = search needs
+
+returns-2 : tie.Need-returns-2
+returns-2 c =
+    let a = c .before .before .before .before .before .before .before .before .before .before .before .before .before .before .before .before .args in
+    let pre = c .before .before .before .before .before .before .before .before .before .before .before .before .before .before .before .before .pre in
+    let seen = sym (c .before .before .before .before .before .before .before .before .before .before .before .covered-by .ensures) ∙ c .before .before .before .before .before .before .before .before .before .before .if1 .left in
+    let o = outcomeFrom (c .before .before .before .before .before .before .before .before .examine .result) in
+    let put = part-written (4 * a .tally .views) (a .records .now) (words (viewsBy o)) (c .before .before .before .note .ensures) in (
+      ap length put ∙ placed-long (4 * a .tally .views) (a .records .now) (words (viewsBy o)) (omega (arith, words-few o, pre .1 .1)),
+      λ x end e.
+          advanced (setting x) (a .tally) _ (a .records .now) _ (a .guess) o (omega (arith, pre .1 .1))
+          (c .before .before .before .before .before .before .before .before .examine .ensures x end e
+          ∙ ap (λ b. outcomeBy (a .guess) b (contradicted (setting x) (a .guess)) (verdict (setting x) (a .guess))) (sym seen)) (c .count2 .ensures) put,
+    )
+
+pub advance-spec : {M : Type 1} → statement M
+advance-spec =
+    tie.close
+    (tie.spec
+    covered-by-requires
+    count-requires
+    same-length
+    returns
+    examine-requires
+    mul-note
+    mul-note-2
+    sub-note
+    part-note-start
+    part-note-end
+    note-requires
+    count-requires-2
+    same-length-2
+    same-length-3
+    returns-2)

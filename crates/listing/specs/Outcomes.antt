@@ -1,0 +1,36 @@
+-- What a guess counts as, and the six counts, as the code has them. Assumes nothing.
+use Prim.Native.Nat.{ℕ, _≤_}
+use mathlib.Core.Path.{_≡_}
+use mathlib.Core.Bool.{false}
+use mathlib.Core.List.{List}
+use Rattle.semantics.specs.Definitions.Reading.{field}
+use Rattle.semantics.specs.Definitions.Sheet.{Sheet}
+use Rattle.semantics.specs.Definitions.Check.{setting, opened}
+use Rattle.semantics.specs.Definitions.Verdict.{verdict}
+use Rattle.semantics.specs.Definitions.Propagation.{contradicted}
+use Rattle.semantics.specs.Definitions.Listing.{Tally}
+use Rattle.semantics.specs.Walk as walk
+use Rattle.listing.specs.declared.outcomes.Tally.{Tally as Counts}
+use Rattle.listing.specs.declared.outcomes.Outcome.{Outcome}
+use Rattle.listing.specs.declared.outcomes.Outcome.the-variants.{Covered, Ruled, Empty, Other, View}
+use Rattle.listing.specs.Records.{viewFrom}
+
+-- the tally that the counts of the code stand for
+abbrev pub tallyFrom : Counts → Tally
+tallyFrom t = record { views = t .views; covered = t .covered; ruled = t .ruled; tested = t .tested; empty = t .empty; other = t .other }
+
+-- none of them is over n
+abbrev pub AtMost : Tally → ℕ → Type 0
+AtMost t n = (t .views ≤ n) × (t .covered ≤ n) × (t .ruled ≤ n) × (t .tested ≤ n) × (t .empty ≤ n) × (t .other ≤ n)
+
+-- the outcome that the code's stands for
+abbrev pub outcomeFrom : Outcome → walk.Outcome
+outcomeFrom Covered = walk.Covered
+outcomeFrom Ruled = walk.Ruled
+outcomeFrom Empty = walk.Empty
+outcomeFrom Other = walk.Other
+outcomeFrom (View v) = walk.IsView (viewFrom v)
+
+-- what a guess that is not covered counts as, for the sheet that the bytes say
+abbrev pub ExaminedAs : List ℕ → (guess : ℕ) → walk.Outcome → Type 0
+ExaminedAs s g o = (x : Sheet) (end : ℕ) → opened s ≡ field x end → o ≡ walk.outcomeBy g false (contradicted (setting x) g) (verdict (setting x) g)

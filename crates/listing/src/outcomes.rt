@@ -1,0 +1,100 @@
+// What a guess counts as, and what then is done: the six counts, and the record of a view.
+use super::records::View;
+use super::records::write_record;
+use guess::reduct::reduct;
+use propagation::contradicted;
+use sheet::Contents;
+use verdict::Verdict;
+use verdict::judge;
+ghost use mathlib.Core.Path.{_≡_};
+ghost use Prim.Native.Nat.{_^_, _<_, _≤_};
+ghost use lib.ListN.{length};
+ghost use Rattle.semantics.specs.Definitions.Sheet.{mostAtoms};
+ghost use Rattle.semantics.specs.Definitions.Check.{mostNegations, opened};
+ghost use Rattle.semantics.specs.Definitions.Returned.{written};
+ghost use Rattle.semantics.specs.Definitions.Listing.{words};
+ghost use Rattle.sheet.specs.declared.Opened.the-variants.{Accepted};
+ghost use Rattle.sheet.specs.Opened.{openedOf};
+ghost use Rattle.semantics.specs.Walk.{countedBy, viewsBy};
+ghost use Rattle.listing.specs.Outcomes.{tallyFrom, AtMost, outcomeFrom, ExaminedAs};
+
+// What a guess counts as: covered, ruled, or tested and then by its verdict.
+pub enum Outcome {
+    Covered,
+    Ruled,
+    Empty,
+    Other,
+    View(View),
+}
+
+// How many guesses count as what.
+pub struct Tally {
+    pub views: usize,
+    pub covered: usize,
+    pub ruled: usize,
+    pub tested: usize,
+    pub empty: usize,
+    pub other: usize,
+}
+
+// The counts with one guess more.
+pub fn count(tally: Tally, outcome: Outcome) -> Tally
+    requires { ⌜ AtMost (tallyFrom tally) (2 ^ mostNegations) ⌝ }
+    ensures { λ r. ⌜ tallyFrom r ≡ countedBy (tallyFrom tally) (outcomeFrom outcome) ⌝ }
+{
+    let mut t = tally;
+    match outcome {
+        Outcome::Covered => {
+            t.covered += 1;
+        }
+        Outcome::Ruled => {
+            t.ruled += 1;
+        }
+        Outcome::Empty => {
+            t.tested += 1;
+            t.empty += 1;
+        }
+        Outcome::Other => {
+            t.tested += 1;
+            t.other += 1;
+        }
+        Outcome::View(_) => {
+            t.tested += 1;
+            t.views += 1;
+        }
+    }
+    t
+}
+
+// The record of a guess that is a view, written to its own part of the records; of another nothing.
+pub fn note(outcome: Outcome, part: &mut [u16])
+    requires { ⌜ 4 ≤ length (now part) ⌝ }
+    ensures { λ _. ⌜ now (part .exit) ≡ written (words (viewsBy (outcomeFrom outcome))) (now (part .entry)) ⌝ }
+{
+    let Outcome::View(v) = outcome else {
+        return;
+    };
+    write_record(v, &mut part[..]);
+}
+
+// What a guess that is not covered counts as. Its reduct is built once.
+pub fn examine(s: &[u8], x: Contents, guess: u16, room: &mut [u16]) -> Outcome
+    requires { ⌜ (openedOf (opened (now s)) ≡ Accepted x) × (guess < 2 ^ x .negations) × (2 ^ mostAtoms ≤ length (now room)) ⌝ }
+    ensures { λ r. ⌜ ExaminedAs (now (s .entry)) guess (outcomeFrom r) ⌝ }
+{
+    let mut program = [0u16; 256];
+    let rules = reduct(s, x, guess, &mut program[..]);
+    if contradicted(&program[..], rules, x, guess) {
+        return Outcome::Ruled;
+    }
+    match judge(&program[..], rules, x, guess, &mut room[..]) {
+        Verdict::Empty => Outcome::Empty,
+        Verdict::Other(_) => Outcome::Other,
+        Verdict::Verified(known, possible, sets) => Outcome::View(View {
+            guess,
+            known,
+            possible,
+            sets: sets as u16,
+        }),
+    }
+}
