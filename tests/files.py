@@ -10,7 +10,8 @@ from pathlib import Path
 from sheets import two_bytes
 
 CRATES = Path(__file__).resolve().parent.parent / "crates"
-MOST_INPUT = 60000  # bytes of all cases together; the program's buffer has 65,536
+# Bytes of all cases together. The program reads its input into 65,536 bytes.
+MOST_INPUT = 64000
 MOST_OUTPUT = 150000
 
 
@@ -26,9 +27,12 @@ def write_or_compare(program, made):
     cases = made()
     given = b"".join(data for data, _ in cases)
     expected = "".join(text for _, text in cases).encode("ascii")
-    if len(given) >= MOST_INPUT:
+    starts = [line.partition(b":")[0] for line in expected.splitlines()]
+    if len(set(starts)) != len(starts):
+        sys.exit("two lines begin alike before their colons")
+    if len(given) > MOST_INPUT:
         sys.exit(f"{len(given)} bytes of input are too many")
-    if len(expected) >= MOST_OUTPUT:
+    if len(expected) > MOST_OUTPUT:
         sys.exit(f"{len(expected)} bytes of output are too many")
 
     folder = CRATES / program

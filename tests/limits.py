@@ -82,9 +82,9 @@ for byte in (57, 95, 123):
     case(f"first byte of last name {byte}", put(THREE, 10, byte), 3, 10)
 for byte in (0, 47, 58, 94, 96, 123, 255):
     case(f"last byte of last name {byte}", put(THREE, 12, byte), 3, 12)
-case("last byte of first long name 94", put(LONGEST[:197], 13, 94), 3, 13)
-case("first byte of last long name 48", put(LONGEST[:197], 184, 48), 3, 184)
-case("last byte of last long name 47", put(LONGEST[:197], 195, 47), 3, 195)
+case("last byte of first long name 94", put(cut(LONGEST, 197), 13, 94), 3, 13)
+case("first byte of last long name 48", put(cut(LONGEST, 197), 184, 48), 3, 184)
+case("last byte of last long name 47", put(cut(LONGEST, 197), 195, 47), 3, 195)
 case("last byte of the input a bad one of a name", put(cut(THREE, 13), 12, 64), 3, 12)
 case("two bad bytes in one name", put(put(THREE, 4, 0), 3, 0), 3, 3)
 case("bad bytes in two names", put(put(THREE, 10, 0), 8, 0), 3, 8)
@@ -105,7 +105,7 @@ case("shorter name begins longer one", make(["ab", "abc"]), 0, 2, 0, 0)
 case("longer name begins with later one", make(["abc", "ab"]), 0, 2, 0, 0)
 case("same letters parted otherwise", make(["ab", "c", "a", "bc"]), 0, 4, 0, 0)
 
-# Bits at and above the atom count (refusal 5): for masks 0 to 7, one bit and its place.
+# Bits at and above the atom count (refusal 5): for each count, in masks 0 to 7, a bit and the mask's place.
 BAD_BITS = {
     0: ((0, 2), (1, 4), (0, 6), (8, 8), (15, 10), (0, 12), (7, 14), (15, 16)),
     1: ((1, 4), (8, 6), (15, 8), (1, 10), (2, 12), (7, 14), (1, 16), (14, 18)),
@@ -197,8 +197,6 @@ def made():
              for title, sheet, numbers in CASES if answer(sheet) != numbers]
     if wrong:
         sys.exit("\n".join(wrong))
-    if len({title for title, _, _ in CASES}) != len(CASES):
-        sys.exit("two cases have one title")
     return [(case_bytes(title, sheet), f"{title}:" + "".join(f" {n}" for n in numbers) + "\n")
             for title, sheet, numbers in CASES]
 

@@ -1,11 +1,15 @@
 """The check of a sheet, written from document 01: refusals 1 to 7."""
 
 
+def has(mask, atom):
+    """Bit i, of value 2^i, means atom i."""
+    return mask // 2 ** atom % 2 == 1
+
+
 def answer(sheet):
     """[refusal, place], or [0, atoms, rules, negations] of an accepted sheet."""
     length = len(sheet)
     too_short = [1, length]
-    place = 0
 
     if length < 1:
         return too_short
@@ -61,10 +65,9 @@ def answer(sheet):
 
     negations = 0
     for atom in range(atoms):
-        bit = 2 ** atom
-        if any(masks[4] & bit or masks[5] & bit for masks in read):
+        if any(has(masks[4], atom) or has(masks[5], atom) for masks in read):
             negations += 1
-        if any(masks[6] & bit or masks[7] & bit for masks in read):
+        if any(has(masks[6], atom) or has(masks[7], atom) for masks in read):
             negations += 1
     if negations > 12:
         return [7, 0]

@@ -6,9 +6,8 @@ of guesses, and the number of words of the lent buffer. For each guess in turn a
 of the expected output: TITLE GUESS: VERDICT; COUNT; BUFFER.
 
 VERDICT is `empty`, `other FOUND`, `verified KNOWN POSSIBLE SETS` or `refused NUMBER
-PLACE`; COUNT is the number of belief sets, or `refused NUMBER PLACE`. BUFFER is every
-word of the buffer after the call, or a digest of more than 24 words, or `-`. Before
-the call word i is 60000 + i mod 1000.
+PLACE`; COUNT is the number of belief sets, or `refused NUMBER PLACE`. BUFFER is the
+lent buffer after the call (buffers.py).
 
 The answers are those of solver.py. Numbers that document 01 states are asserted.
 With --check the files are only compared.
@@ -16,14 +15,16 @@ With --check the files are only compared.
 
 from itertools import combinations, groupby
 
+from buffers import before_call, shown
 from files import case_bytes, write_or_compare
+from known import KILN, KILN_VIEWS, KNOWN
 from reader import answer
-from sheets import HEAD, K, LONGEST, M, NOT, NOTHING, NOT_K, NOT_M, NOT_NOT, cut, letters, make, put, rule, sheet
+from sheets import (BAD, DISJUNCTION_OF_TEN, FIVE_DISJUNCTIONS, GOOD, LONGEST, MANY_RULES, NOTHING, SIX, TWELVE,
+                    TWELVE_M, Random, choices, letters, make, random_sheet, sheet)
 from solver import (DELETED, REDUCT, REMOVED, belief_set_numbers, belief_sets, belief_sets_call, guess_count, members,
-                    negations, opened, reduct, stable_by_parts, verdict, verdict_by, verdict_call, world_views)
+                    negations, opened, reduct, stable_by_parts, verdict, verdict_by, verdict_call)
 
 MOST_WORDS = 32770  # of the program's buffer
-ALL_PRINTED = 24
 
 CASES = []
 
@@ -49,38 +50,16 @@ def exactly(title, data, first, count):
 
 
 def both(title, data):
+    """The lines of `every`, and those of `exactly` for every guess."""
     every(title, data)
     exactly(title, data, 0, guess_count(data))
 
 
-def choices(atoms):
-    """The choice rule of each atom."""
-    return [f"{atom} <- not not {atom}" for atom in atoms]
-
-
-# The sheets with known lists by their numbers: views as (guess, known, possible, sets).
-
-KNOWN = {
-    1: (bytes([0, 0]), [(0, 0, 0, 1)]),
-    2: (sheet("a", "a <- K a"), [(1, 0, 0, 1)]),
-    3: (sheet("a", "a <- not K a"), []),
-    4: (sheet("a", "a <- M a"), [(1, 1, 1, 1)]),
-    5: (sheet("a", "a <- not M a"), []),
-    6: (sheet("a b", "a <- not K b", "b <- not K a"), [(1, 2, 2, 1), (2, 1, 1, 1)]),
-    7: (sheet("a", "a <- not not a"), [(0, 0, 1, 2)]),
-    8: (sheet("a b", "a | b"), [(0, 0, 3, 2)]),
-    9: (sheet("a", "a", "<- a"), []),
-    10: (sheet("a b c", "c <- M a", "a <- b", "b <- a"), [(0, 0, 0, 1)]),
-}
-for number, (data, views) in KNOWN.items():
-    assert world_views(data) == views, (number, world_views(data))
-    both(f"known sheet {number}", data)
-
-# The kiln example of document 01.
-KILN = sheet("glaze bisque", "glaze | bisque", "<- not K glaze")
-assert KILN[-16:] == bytes(10) + bytes([1]) + bytes(5)
-assert world_views(KILN) == [(0, 1, 1, 1)]
-both("kiln", KILN)
+# The sheets with known lists, and the kiln example of document 01.
+for title, data, views in [*((f"known sheet {number}", data, views) for number, (data, views, _) in KNOWN.items()),
+                           ("kiln", KILN, KILN_VIEWS)]:
+    assert all(verdict(data, guess) == ("verified", *numbers) for guess, *numbers in views), title
+    both(title, data)
 
 # The errors that document 01 names.
 assert verdict(KNOWN[2][0], 0) == ("other", 1)
@@ -213,24 +192,19 @@ assert verdict(LONGEST, 1365) == ("verified", 0, 0, 1)  # "not K" of six atoms, 
 case("longest sheet", LONGEST, 1364, 3, 1)
 case("longest sheet, one word short", LONGEST, 1365, 1, 0)
 case("longest sheet, last guess and one out of range", LONGEST, 4095, 2, 2)
-case("15 atoms, 64 rules",
-     make(ATOMS, [rule({HEAD: 2 ** (i % 15), NOT: 2 ** ((i * i + i // 15 + 1) % 15), NOT_NOT: 2 ** (i % 3)})
-                  for i in range(64)]), 0, 2, 20)
+case("15 atoms, 64 rules", make(ATOMS, MANY_RULES), 0, 2, 20)
 every("not K a in rule 63", sheet("a b", *["a <- a"] * 63, "b <- not K a"))
 
-# Guess 1 deletes rules 0, 2, ..., 62. The facts are all pairs of nine atoms but four: W has five sets, and other sets
-# without any one of them.
+# Guess 1 deletes rules 0, 2, ..., 62. The others are disjunctions of two, all pairs of nine atoms but four: W has five
+# sets, and without any one of these rules it is another.
 PAIRS = [one + other for one, other in combinations("bcdefghij", 2) if one + other not in ("bc", "de", "fg", "hi")]
-every("32 rules with K a and 32 facts in turn",
-      sheet("a b c d e f g h i j", *(text for one, other in PAIRS for text in (f"{one} <- K a", f"{one} | {other}"))))
+data = sheet("a b c d e f g h i j", *(text for one, other in PAIRS for text in (f"{one} <- K a", f"{one} | {other}")))
+remaining = reduct(opened(data).rules, members(negations(opened(data)), 1))
+assert remaining == opened(data).rules[1::2] and len(remaining) == 32 and len(belief_sets(data, 1)) == 5
+assert all(stable_by_parts(remaining[:i] + remaining[i + 1:]) != belief_sets(data, 1) for i in range(32))
+every("32 rules with K a and 32 facts in turn", data)
 
 # Twelve negations: of six atoms, and of twelve.
-SIX = sheet("a b c d e f", "a <- not K b", "b <- not K a", "c <- M a, not M d", "d <- M b, not K e", "e | f <- not M c",
-            "e <- K f", "f <- not not f, M e", "<- K c, K d", "a <- not M f, not not b", "b <- M f, K d")
-TWELVE = make(letters(12), [rule({HEAD: 2 ** i, NOT_K: 2 ** (i ^ 1)}) for i in range(12)])
-TWELVE_M = make(letters(12), [rule({HEAD: 2 ** i, NOT_NOT: 2 ** i}) for i in range(4)]
-                + [rule({HEAD: 2 ** (i + 4), (M, NOT_M)[i % 2]: 2 ** i, NOT: 2 ** (11 - i)}) for i in range(8)]
-                + [rule({HEAD: 16 + 32, M: 2 ** i}) for i in range(8, 12)])
 for title, data, verified in (("12 negations of 6 atoms", SIX, (1382, 3993)),
                               ("12 not K of 12 atoms", TWELVE, (1365, 2730)),
                               ("12 M of 12 atoms", TWELVE_M, (3455,))):
@@ -242,27 +216,7 @@ for title, data, verified in (("12 negations of 6 atoms", SIX, (1382, 3993)),
     case(f"{title}, guess 65535", data, 65535, 1, 3)
 
 
-# Random sheets, the same at every run.
-
-class Random:
-    def __init__(self, seed):
-        self.state = seed
-
-    def below(self, limit):
-        self.state = (self.state * 1103515245 + 12345) % 2 ** 31
-        return (self.state >> 12) % limit
-
-    def mask(self, atoms, percent):
-        return sum(2 ** i for i in range(atoms) if self.below(100) < percent)
-
-
-def random_sheet(random, atoms, rules, head, objective, subjective):
-    """The last three: how often an atom is in such a mask, in percent. Only the first 9 rules have masks 4 to 7."""
-    percents = [head] + [objective] * 3 + [subjective] * 4
-    return make(letters(atoms), [
-        rule({m: random.mask(atoms, percent) for m, percent in enumerate(percents[:8 if i < 9 else 4])})
-        for i in range(rules)])
-
+# Random sheets.
 
 def varied(data, most, least):
     """One to `most` negations, "verified" and another verdict, at least `least` different W."""
@@ -295,24 +249,10 @@ every("random, 8 atoms, 64 rules", varied_sheets(78, 1, 4, 2, 8, 64, 40, 22, 2)[
 every("random, 5 atoms, 64 rules", varied_sheets(79, 1, 5, 2, 5, 64, 50, 30, 3)[0])
 
 # Disjunctions over ten atoms.
-every("five disjunctions of two, 10 atoms",
-      sheet("a b c d e f g h i j", "a | b", "c | d", "e | f", "g | h", "i | j", "a | c | e <- b, d", "<- K a, g",
-            "j <- M h, not a"))
-every("disjunction of ten", sheet("a b c d e f g h i j", "a | b | c | d | e | f | g | h | i | j",
-                                  "a <- b, not K b", "b <- a, not K a", "c <- d", "d <- e", "e <- c",
-                                  "f | g <- not not h", "h | i | j <- not g"))
+every("five disjunctions of two, 10 atoms", FIVE_DISJUNCTIONS)
+every("disjunction of ten", DISJUNCTION_OF_TEN)
 
 # Refused: the sheet is checked first, then the guess, then the buffer.
-GOOD = sheet("a b", "a | b", "a <- K b")
-BAD = [
-    (1, b""), (1, bytes([0])), (1, cut(GOOD, len(GOOD) - 1)), (1, cut(GOOD, 4)),
-    (2, bytes([16])), (2, bytes([0, 65])), (2, put(GOOD, 5, 65)),
-    (3, put(GOOD, 1, 0)), (3, put(GOOD, 3, 13)), (3, put(GOOD, 2, 65)),
-    (4, sheet("a b", "a").replace(b"b", b"a")),
-    (5, put(GOOD, 6, 4)), (5, put(GOOD, len(GOOD) - 1, 128)),
-    (6, GOOD + bytes([0])), (6, bytes([0, 0, 0])),
-    (7, make(letters(13), [rule({K: 8191})])), (7, make(letters(7), [rule({HEAD: 1, NOT_K: 127, M: 63})])),
-]
 for turn, (number, data) in enumerate(BAD):
     assert answer(data)[0] == number, turn
     case(f"bad sheet {turn}, refusal {number}", data, 0, 2, 3)
@@ -348,20 +288,9 @@ def unnoticed():
 
 # Lines of output.
 
-def shown(buffer):
-    if not buffer:
-        return "-"
-    if len(buffer) <= ALL_PRINTED:
-        return " ".join(str(word) for word in buffer)
-    digest = 0
-    for word in buffer:
-        digest = (digest * 257 + word) % 65521
-    return f"digest {digest}"
-
-
 def lines(title, data, first, count, words):
     for guess in range(first, first + count):
-        counted, buffer = belief_sets_call(data, guess, [60000 + i % 1000 for i in range(words)])
+        counted, buffer = belief_sets_call(data, guess, before_call(words))
         fields = (" ".join(str(field) for field in part) for part in (verdict_call(data, guess), counted))
         yield f"{title} {guess}: " + "; ".join([*fields, shown(buffer)]) + "\n"
 
@@ -370,8 +299,6 @@ def made():
     """The bytes of each case and its lines of output."""
     assert not unnoticed(), unnoticed()
     assert all(words <= MOST_WORDS and count > 0 and first + count <= 65536 for _, _, first, count, words in CASES)
-    named = [(title, guess) for title, _, first, count, _ in CASES for guess in range(first, first + count)]
-    assert len(set(named)) == len(named), "two lines have one title and guess"
     return [(case_bytes(*one), "".join(lines(*one))) for one in CASES]
 
 

@@ -1,7 +1,7 @@
 // Limit cases of the check. A case has a title and a sheet (crate `cases`). For each a line has the title and what `engine::check` answers
 // for the sheet.
-use cases::find;
-use cases::print;
+use cases::input::find;
+use cases::output::print;
 use engine::Checked;
 use engine::check;
 ghost use Prim.Native.Nat.{_<_, _≤_};

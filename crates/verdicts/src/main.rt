@@ -1,21 +1,18 @@
 // Cases of the verdict and of the belief sets. After its title and its sheet (crate `cases`) a case has three fields of two bytes, low byte
 // first: the first guess, the number of guesses, and the number of words of the lent buffer, 0 to 32,770. For each guess a line has the title,
 // the guess, what `engine::verdict` answers, what `engine::belief_sets` answers, and the buffer after that call.
-use cases::find;
-use cases::print;
-use cases::word;
+use cases::buffers::fill;
+use cases::buffers::show;
+use cases::input::find;
+use cases::input::word;
+use cases::output::print;
+use cases::output::refused;
 use engine::Counted;
 use engine::Judged;
 use engine::belief_sets;
 use engine::verdict;
 ghost use Prim.Native.Nat.{_<_, _≤_};
 ghost use lib.ListN.{length};
-
-fn refused(number: u8, place: usize) {
-    io::write_all(1, b" refused");
-    print(number as usize);
-    print(place);
-}
 
 fn judge(sheet: &[u8], guess: u16) {
     match verdict(sheet, guess) {
@@ -50,46 +47,6 @@ fn count(sheet: &[u8], guess: u16, out: &mut [u16]) {
         Counted::Refused { number, place } => {
             refused(number, place);
         }
-    }
-}
-
-// What the buffer holds before the call.
-fn fill(out: &mut [u16]) {
-    for i in 0..out.len() {
-        out[i] = (60000 + i % 1000) as u16;
-    }
-}
-
-fn wide(x: u16) -> usize
-    ensures { λ r. ⌜ r < 65536 ⌝ }
-{
-    x as usize
-}
-
-fn each(words: &[u16]) {
-    for i in 0..words.len() {
-        print(wide(words[i]));
-    }
-}
-
-fn digest(words: &[u16]) -> usize {
-    let mut d = 0;
-    for i in 0..words.len() {
-        d = (d * 257 + wide(words[i])) % 65521;
-    }
-    d
-}
-
-// Every word, or a digest of more than 24.
-fn show(words: &[u16]) {
-    let n = words.len();
-    if n == 0 {
-        io::write_all(1, b" -");
-    } else if n <= 24 {
-        each(words);
-    } else {
-        io::write_all(1, b" digest");
-        print(digest(words));
     }
 }
 

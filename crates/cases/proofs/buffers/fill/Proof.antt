@@ -1,10 +1,10 @@
--- `verdicts::fill` is safe and ends. Assumes nothing.
+-- `cases::buffers::fill` is safe and ends. Assumes nothing.
 use borrow.Author.Needs.{needs}
 use lib.ListN.{length}
 use mathlib.Core.Path.{_≡_}
 use Prim.Native.Nat.{_-_}
-use Rattle.verdicts.proofs.fill.Statement.{statement}
-use Rattle.verdicts.proofs.fill.Tie as tie
+use Rattle.cases.proofs.buffers.fill.Statement.{statement}
+use Rattle.cases.proofs.buffers.fill.Tie as tie
 
 abbrev Inv-loop : tie.InvT-loop
 Inv-loop out₀ i₀ i-end out i = (i-end ≡ length out) × (length out ≡ length out₀)
