@@ -74,14 +74,10 @@ module _ (sheet : List ℕ) (g : ℕ) where
   accepted-returns : {A : Type 0} (of : Sheet → Returned A) {s : Setting} (h : GuessOf sheet g s) → returned (openedFor sheet g) of ≡ of (h .of .says)
   accepted-returns of h = ap (λ r. returned r of) (opened-for (h .of .says) (h .of .end) .1 (h .of .accepts, subst (λ s. g < 2 ^ k s) (h .of .means) (h .below)))
 
-  returned-refused : {A : Type 0} (of : Sheet → Returned A) {number place : ℕ} → openedFor sheet g ≡ refused number place
-      → returned (openedFor sheet g) of ≡ refusal number place
-  returned-refused of e = ap (λ r. returned r of) e
-
   -- ---- the verdict
   pub verdict-refused : (number place : ℕ) → verdictCall sheet g ≡ refusal number place ↔ (openedFor sheet g ≡ refused number place)
   unfolding verdictCall
-  verdict-refused number place = (reading-refused (λ x. verdict (setting x) g) (openedFor sheet g), returned-refused (λ x. accepted (verdict (setting x) g)))
+  verdict-refused number place = (reading-refused (λ x. verdict (setting x) g) (openedFor sheet g), ap (λ r. returned r (λ x. accepted (verdict (setting x) g))))
 
   pub verdict-is : {s : Setting} → GuessOf sheet g s → verdictCall sheet g ≡ accepted (verdict s g)
   unfolding verdictCall

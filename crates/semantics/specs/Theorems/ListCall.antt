@@ -8,24 +8,21 @@ use Rattle.semantics.specs.Definitions.Reading.{refused}
 use Rattle.semantics.specs.Definitions.Sheet.{Sheet}
 use Rattle.semantics.specs.Definitions.Setting.{Setting}
 use Rattle.semantics.specs.Definitions.Check.{setting, opened}
-use Rattle.semantics.specs.Definitions.Returned.{Returned, accepted, refusal, returned}
+use Rattle.semantics.specs.Definitions.Returned.{accepted, refusal, returned}
 use Rattle.semantics.specs.Definitions.Listing.{listing}
 use Rattle.semantics.specs.Definitions.Calls.{Result, resultOf, resultInto, listCall}
 use Rattle.semantics.specs.Theorems.Returned.{SheetOf, was-accepted, limited-fits, short-limited, limited-refused}
 
 module _ (sheet : List ℕ) (words : ℕ) where
-  of : Sheet → Returned Result
-  of x = resultInto words (resultOf (setting x))
-
   pub result-given : {s : Setting} → SheetOf sheet s → listCall sheet words ≡ resultInto words (resultOf s)
   unfolding listCall
   result-given h = ap (λ r. returned r (λ x. resultInto words (resultOf (setting x)))) (h .accepts) ∙ ap (λ s. resultInto words (resultOf s)) (sym (h .means))
 
   -- accepted: the views fit
   pub result-says : {r : Result} → listCall sheet words ≡ accepted r → (s : Setting) × SheetOf sheet s × (r ≡ resultOf s) × (4 * length (listing s) ≤ words)
-  unfolding listCall of
+  unfolding listCall
   result-says e =
-      let (x, end, d, f) = was-accepted of (opened sheet) e in
+      let (x, end, d, f) = was-accepted (λ x. resultInto words (resultOf (setting x))) (opened sheet) e in
       let (same, fit) = limited-fits _ words _ (resultOf (setting x)) f in
       (setting x, record { says = x; end = end; accepts = d; means = refl }, sym same, fit)
 

@@ -21,16 +21,10 @@ pub record SheetOf (sheet : List ℕ) (s : Setting) : Type 0 where
   pub accepts : opened sheet ≡ field says end
   pub means : s ≡ setting says
 
-module _ {A : Type 0} (of : Sheet → Returned A) where
-  pub was-accepted : (r : Reading Sheet) {values : A} → returned r of ≡ accepted values
-      → (x : Sheet) × (end : ℕ) × (r ≡ field x end) × (of x ≡ accepted values)
-  was-accepted (field x end) e = (x, end, refl, e)
-  was-accepted (refused number place) e = let z : _≡_ {A = ℕ} 0 1 = cc in absurd (omega arith)
-
-  pub was-refused : (r : Reading Sheet) {number place : ℕ} → returned r of ≡ refusal number place
-      → (r ≡ refused number place) ⊎ ((x : Sheet) × (end : ℕ) × (r ≡ field x end) × (of x ≡ refusal number place))
-  was-refused (field x end) e = inr (x, end, refl, e)
-  was-refused (refused n p) e = inl cc
+pub was-accepted : {A : Type 0} (of : Sheet → Returned A) (r : Reading Sheet) {values : A} → returned r of ≡ accepted values
+    → (x : Sheet) × (end : ℕ) × (r ≡ field x end) × (of x ≡ accepted values)
+was-accepted of (field x end) e = (x, end, refl, e)
+was-accepted of (refused number place) e = let z : _≡_ {A = ℕ} 0 1 = cc in absurd (omega arith)
 
 -- of a call that refuses nothing more once the sheet is read
 pub reading-refused : {A : Type 0} (of : Sheet → A) (r : Reading Sheet) {number place : ℕ} → returned r (λ x. accepted (of x)) ≡ refusal number place
@@ -47,7 +41,7 @@ module _ {A : Type 0} (needed words number : ℕ) (values : A) where
       go true f e = (cc, f refl)
       go false f e = let z : _≡_ {A = ℕ} 0 1 = cc in absurd (omega arith)
 
-  pub limited-short : {n p : ℕ} → limited needed words number values ≡ refusal n p → (words < needed) × (n ≡ 9) × (p ≡ number)
+  limited-short : {n p : ℕ} → limited needed words number values ≡ refusal n p → (words < needed) × (n ≡ 9) × (p ≡ number)
   limited-short {n} {p} = go (leb needed words) (leb-false needed words)
     where
       go : (b : Bool) → (b ≡ false → words < needed) → cond b (accepted values) (refusal 9 number) ≡ refusal n p → (words < needed) × (n ≡ 9) × (p ≡ number)
