@@ -4,7 +4,8 @@ use mathlib.Core.Path.{_≡_, refl, sym, ap, _∙_}
 use Rattle.semantics.specs.Definitions.Check.{Numbers}
 use Rattle.semantics.specs.Definitions.Returned.{Returned, accepted, refusal}
 use Rattle.semantics.specs.Definitions.Verdict as meant
-use Rattle.semantics.specs.Definitions.Listing.{Tally}
+use Rattle.semantics.specs.Definitions.Listing.{Tally, tallied}
+use Rattle.semantics.specs.Definitions.Query as asked
 use Rattle.engine.specs.declared.Checked.{Checked}
 use Rattle.engine.specs.declared.Checked.the-variants.{Accepted, Refused}
 use Rattle.engine.specs.declared.Judged.{Judged}
@@ -13,6 +14,8 @@ use Rattle.engine.specs.declared.Counted.{Counted}
 use Rattle.engine.specs.declared.Counted.the-variants as counts
 use Rattle.engine.specs.declared.Listed.{Listed}
 use Rattle.engine.specs.declared.Listed.the-variants as listings
+use Rattle.engine.specs.declared.Queried.{Queried}
+use Rattle.engine.specs.declared.Queried.the-variants as queries
 
 -- "The check of an accepted sheet answers with the numbers of atoms, of rules and of negations"
 abbrev pub checked : Checked → Returned Numbers
@@ -33,9 +36,15 @@ counted (counts.Refused number place) = refusal number place
 
 -- "The result has views, covered, ruled, tested, empty, other."
 abbrev pub listed : Listed → Returned Tally
-listed (listings.Accepted views covered ruled tested empty other) =
-    accepted (record { views = views; covered = covered; ruled = ruled; tested = tested; empty = empty; other = other })
+listed (listings.Accepted views covered ruled tested empty other) = accepted (tallied views covered ruled tested empty other)
 listed (listings.Refused number place) = refusal number place
+
+-- ""yes"", ""no"", ""open""
+abbrev pub queried : Queried → Returned asked.Answer
+queried queries.Yes = accepted asked.Yes
+queried queries.No = accepted asked.No
+queried queries.Open = accepted asked.Open
+queried (queries.Refused number place) = refusal number place
 
 -- What an answer means fixes it: no two answers mean the same.
 answerChecked : Returned Numbers → Checked
@@ -55,6 +64,12 @@ answerCounted (refusal number place) = counts.Refused number place
 answerListed : Returned Tally → Listed
 answerListed (accepted t) = listings.Accepted (t .views) (t .covered) (t .ruled) (t .tested) (t .empty) (t .other)
 answerListed (refusal number place) = listings.Refused number place
+
+answerQueried : Returned asked.Answer → Queried
+answerQueried (accepted asked.Yes) = queries.Yes
+answerQueried (accepted asked.No) = queries.No
+answerQueried (accepted asked.Open) = queries.Open
+answerQueried (refusal number place) = queries.Refused number place
 
 checked-back : (r : Checked) → answerChecked (checked r) ≡ r
 unfolding answerChecked
@@ -78,6 +93,13 @@ unfolding answerListed
 listed-back (listings.Accepted views covered ruled tested empty other) = refl
 listed-back (listings.Refused number place) = refl
 
+queried-back : (r : Queried) → answerQueried (queried r) ≡ r
+unfolding answerQueried
+queried-back queries.Yes = refl
+queried-back queries.No = refl
+queried-back queries.Open = refl
+queried-back (queries.Refused number place) = refl
+
 pub checked-fixed : (r q : Checked) → checked r ≡ checked q → r ≡ q
 checked-fixed r q e = sym (checked-back r) ∙ ap answerChecked e ∙ checked-back q
 
@@ -89,3 +111,6 @@ counted-fixed r q e = sym (counted-back r) ∙ ap answerCounted e ∙ counted-ba
 
 pub listed-fixed : (r q : Listed) → listed r ≡ listed q → r ≡ q
 listed-fixed r q e = sym (listed-back r) ∙ ap answerListed e ∙ listed-back q
+
+pub queried-fixed : (r q : Queried) → queried r ≡ queried q → r ≡ q
+queried-fixed r q e = sym (queried-back r) ∙ ap answerQueried e ∙ queried-back q

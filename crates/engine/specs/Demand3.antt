@@ -11,11 +11,11 @@ use Rattle.semantics.specs.Definitions.Setting.{Setting}
 use Rattle.semantics.specs.Definitions.Check.{opened}
 use Rattle.semantics.specs.Definitions.Returned.{Returned, accepted, refusal, answer, afterwards}
 use Rattle.semantics.specs.Definitions.Listing.{Tally, listing, words}
-use Rattle.semantics.specs.Definitions.Calls.{Result, resultOf, listCall, recordsOf}
+use Rattle.semantics.specs.Definitions.Calls.{Result, resultOf, recordsNeed, listCall, recordsOf}
 use Rattle.semantics.specs.Theorems.Returned.{SheetOf, fits-limited, short-limited, answer-accepted, answer-refused}
-use Rattle.semantics.specs.Theorems.Tally.{Number, number-only, TallyOf, tally-of}
+use Rattle.semantics.specs.Theorems.Tally.{Number, TallyOf, tally-of}
 use Rattle.semantics.specs.Theorems.WorldView.{WorldView}
-use Rattle.semantics.specs.Theorems.Listing.{views-of, listing-long}
+use Rattle.semantics.specs.Theorems.Listing.{views-of, listing-long, listing-many}
 use Rattle.semantics.specs.Theorems.Records.{RecordsOf, records-of, words-long}
 use Rattle.semantics.specs.Theorems.ListCall.{result-given, result-says, list-refused}
 use Rattle.engine.specs.declared.Listed.{Listed}
@@ -54,7 +54,7 @@ module _ (sheet : List ℕ) (r : Listed) (before after : List ℕ)
   written : (t : Tally) → listed r ≡ accepted t → RecordsWritten sheet t before after
   written t e =
       let (v, d, told) = answer-accepted (λ v. v .tally) (listCall sheet (length before)) (sym answers ∙ e) in
-      let (s, h, same, fit) = result-says sheet (length before) d in
+      let (s, h, same, fit) = result-says recordsNeed sheet (length before) d in
       let left : after ≡ words (listing s) ++ drop (length (words (listing s))) before =
       leaves ∙ ap (λ q. afterwards recordsOf q before) d ∙ ap (λ z. afterwards recordsOf (accepted z) before) same in
       let long : length (listing s) ≡ t .views = listing-long s ∙ ap (λ z. z .views) (sym (ap (λ z. z .tally) same) ∙ told) in
@@ -68,18 +68,15 @@ module _ (sheet : List ℕ) (r : Listed) (before after : List ℕ)
         tally = subst (TallyOf s) (sym (ap (λ z. z .tally) same) ∙ told) (tally-of s);
       }
 
-  many : (s : Setting) {n : ℕ} → Number s (WorldView s) n → n ≡ length (listing s)
-  many s m = number-only m (tally-of s .views-are) ∙ sym (listing-long s)
-
   pub listing-demand : ListingDemand sheet r before after
   listing-demand = record {
     listing-written = written;
-    sheet-refused = λ number place e. listed-fixed r _ (returned (list-refused sheet (length before) number place .1 (inl e)));
+    sheet-refused = λ number place e. listed-fixed r _ (returned (list-refused recordsNeed sheet (length before) number place .1 (inl e)));
     views-fit = λ s h n m l.
-        (_, returned (result-given sheet (length before) h ∙ fits-limited _ (length before) _ (resultOf s) (subst (λ z. 4 * z ≤ length before) (many s m) l)));
+        (_, returned (result-given recordsNeed sheet (length before) h ∙ fits-limited _ (length before) _ (resultOf s) (subst (λ z. 4 * z ≤ length before) (listing-many s m) l)));
     views-too-many = λ s h n m l.
-        listed-fixed r _ (returned (result-given sheet (length before) h ∙ short-limited _ (length before) _ (resultOf s) (subst (λ z. length before < 4 * z) (many s m) l))
-        ∙ ap (refusal 9) (sym (many s m)));
+        listed-fixed r _ (returned (result-given recordsNeed sheet (length before) h ∙ short-limited _ (length before) _ (resultOf s) (subst (λ z. length before < 4 * z) (listing-many s m) l))
+        ∙ ap (refusal 9) (sym (listing-many s m)));
     refused-keeps = λ number place e.
         leaves ∙ ap (λ q. afterwards recordsOf q before) (answer-refused (λ v. v .tally) (listCall sheet (length before)) (sym answers ∙ ap listed e));
   }

@@ -2,3 +2,4 @@
 pub mod Answers
 pub mod Demand2
 pub mod Demand3
+pub mod Queries

@@ -3,6 +3,8 @@
 mod lent;
 
 use lent::write;
+use listing::atoms::known_in_all;
+use listing::atoms::possible_in_none;
 use listing::records::write_records;
 use listing::walk;
 use sets::power;
@@ -15,11 +17,12 @@ ghost use mathlib.Core.Path.{_≡_};
 ghost use lib.ListN.{length};
 ghost use Rattle.semantics.specs.Definitions.Check.{check as checkOf};
 ghost use Rattle.semantics.specs.Definitions.Returned.{answer, afterwards};
-ghost use Rattle.semantics.specs.Definitions.Calls.{openedFor, verdictCall, beliefSetsCall, listCall, recordsOf};
+ghost use Rattle.semantics.specs.Definitions.Calls.{openedFor, openedForAtom, verdictCall, beliefSetsCall, listCall, recordsOf, queryCall};
 ghost use Rattle.sheet.specs.Opened.{openedOf};
-ghost use Rattle.engine.specs.Answers.{checked, judged, counted, listed};
+ghost use Rattle.engine.specs.Answers.{checked, judged, counted, listed, queried};
 ghost use Rattle.engine.specs.Demand2.{VerdictDemand, SetsDemand};
 ghost use Rattle.engine.specs.Demand3.{ListingDemand};
+ghost use Rattle.engine.specs.Queries.{QueryDemand};
 
 // What the check answers: the numbers of atoms, of rules and of negations, or a refusal by its number and place.
 pub enum Checked {
@@ -75,6 +78,14 @@ pub enum Listed {
     },
 }
 
+// What the query of an atom answers, or a refusal by its number and place.
+pub enum Queried {
+    Yes,
+    No,
+    Open,
+    Refused { number: u8, place: usize },
+}
+
 // Checks a sheet: refusals 1 to 7.
 pub fn check(sheet: &[u8]) -> Checked
     ensures { λ r. ⌜ checked r ≡ checkOf (now (sheet .entry)) ⌝ }
@@ -90,28 +101,28 @@ pub fn check(sheet: &[u8]) -> Checked
 }
 
 // The sheet, opened for a guess: refusals 1 to 7, then 8.
-fn open_for(sheet: &[u8], guess: u16) -> Opened
+fn open_for(sheet: &[u8], guess: u32) -> Opened
     ensures { λ r. ⌜ r ≡ openedOf (openedFor (now (sheet .entry)) guess) ⌝ }
 {
     let opened = open(sheet);
     let Opened::Accepted(x) = opened else {
         return opened;
     };
-    if power(x.negations as u16) <= guess {
+    if power(x.negations as u16) as u32 <= guess {
         return Opened::Refused(8, 0);
     }
     opened
 }
 
 // The verdict on a guess: refusals 1 to 8.
-pub fn verdict(sheet: &[u8], guess: u16) -> Judged
+pub fn verdict(sheet: &[u8], guess: u32) -> Judged
     ensures { λ r. ⌜ judged r ≡ verdictCall (now (sheet .entry)) guess ⌝ }
     ensures { λ r. ⌜ VerdictDemand (now (sheet .entry)) guess r ⌝ }
 {
     match open_for(sheet, guess) {
         Opened::Accepted(x) => {
             let mut room = [0u16; 32768];
-            match verdict_on(sheet, x, guess, &mut room[..]) {
+            match verdict_on(sheet, x, guess as u16, &mut room[..]) {
                 Verdict::Empty => Judged::Empty,
                 Verdict::Other(found) => Judged::Other { found },
                 Verdict::Verified(known, possible, sets) => Judged::Verified {
@@ -126,7 +137,7 @@ pub fn verdict(sheet: &[u8], guess: u16) -> Judged
 }
 
 // The belief sets of a guess, by rising number, into a lent buffer: refusals 1 to 8, then 9.
-pub fn belief_sets(sheet: &[u8], guess: u16, out: &mut [u16]) -> Counted
+pub fn belief_sets(sheet: &[u8], guess: u32, out: &mut [u16]) -> Counted
     ensures { λ r. ⌜ counted r ≡ answer length (beliefSetsCall (now (sheet .entry)) guess (length (now (out .entry)))) ⌝ }
     ensures { λ r. ⌜ now (out .exit) ≡ afterwards (λ w. w) (beliefSetsCall (now (sheet .entry)) guess (length (now (out .entry)))) (now (out .entry)) ⌝ }
     ensures { λ r. ⌜ SetsDemand (now (sheet .entry)) guess r (now (out .entry)) (now (out .exit)) ⌝ }
@@ -134,7 +145,7 @@ pub fn belief_sets(sheet: &[u8], guess: u16, out: &mut [u16]) -> Counted
     match open_for(sheet, guess) {
         Opened::Accepted(x) => {
             let mut room = [0u16; 32768];
-            let n = gather(sheet, x, guess, &mut room[..]);
+            let n = gather(sheet, x, guess as u16, &mut room[..]);
             if out.len() < n {
                 return Counted::Refused {
                     number: 9,
@@ -175,5 +186,40 @@ pub fn list(sheet: &[u8], out: &mut [u16]) -> Listed
             }
         }
         Opened::Refused(number, place) => Listed::Refused { number, place },
+    }
+}
+
+// The sheet, opened for an atom: refusals 1 to 7, then 10.
+fn open_for_atom(sheet: &[u8], atom: u32) -> Opened
+    ensures { λ r. ⌜ r ≡ openedOf (openedForAtom (now (sheet .entry)) atom) ⌝ }
+{
+    let opened = open(sheet);
+    let Opened::Accepted(x) = opened else {
+        return opened;
+    };
+    if x.atoms <= atom as usize {
+        return Opened::Refused(10, 0);
+    }
+    opened
+}
+
+// The query of an atom: refusals 1 to 7, then 10.
+pub fn query(sheet: &[u8], atom: u32) -> Queried
+    ensures { λ r. ⌜ queried r ≡ queryCall (now (sheet .entry)) atom ⌝ }
+    ensures { λ r. ⌜ QueryDemand (now (sheet .entry)) atom r ⌝ }
+{
+    match open_for_atom(sheet, atom) {
+        Opened::Accepted(x) => {
+            let mut records = [0u16; 16384];
+            let t = walk(sheet, x, &mut records[..]);
+            if known_in_all(&records[..], t.views, atom as u16) {
+                return Queried::Yes;
+            }
+            if possible_in_none(&records[..], t.views, atom as u16) {
+                return Queried::No;
+            }
+            Queried::Open
+        }
+        Opened::Refused(number, place) => Queried::Refused { number, place },
     }
 }

@@ -23,7 +23,7 @@ use Rattle.sheet.specs.declared.Contents.{Contents}
 use Rattle.sheet.specs.declared.Opened.the-variants.{Accepted}
 use Rattle.sheet.specs.Opened.{openedOf, opened-as, opened-same}
 use Rattle.listing.specs.Records.{viewsIn}
-use Rattle.listing.specs.Outcomes.{AtMost}
+use Rattle.semantics.specs.Theorems.Tally.{AtMost}
 use Rattle.listing.specs.Walks.{Advanced, ListingOf}
 use Rattle.listing.proofs.Steps.{one-at-most}
 

@@ -1,7 +1,7 @@
 -- Records in words: one written into its own part of a buffer, and the views that then stand there. Assumes nothing.
 use Prim.Native.Nat.{ℕ, suc, _+_, _*_, _-_, _≤_, _<_}
 use mathlib.Core.Path.{_≡_, refl, sym, ap, ap₂, _∙_}
-use mathlib.Core.Bool.{true}
+use mathlib.Core.Bool.{Bool, true}
 use mathlib.Core.List.{List, [], _∷_, _++_, append-nil, append-assoc}
 use native.Mathlib.Nat.{not-suc-le-zero}
 use native.Mathlib.Numerals.{add-one}
@@ -9,7 +9,7 @@ use native.Mathlib.Omega.{arith}
 use lib.ListN.{length, getD, set, take, drop, length-append, length-drop, List·getD-append, drop-of-length-le}
 use lib.Seq.{length-take-le, take-all, take-at, drop-append-add, getD-append-add, getD-take, drop-drop}
 use Rattle.sets.specs.Decides.{Decides, dec-iff, dec-self}
-use Rattle.sets.specs.Lists.{some, flat, flat-snoc, upTo, map-upTo-suc, map-upTo-same, among-map, among-upTo, dec-some}
+use Rattle.sets.specs.Lists.{every, some, flat, flat-snoc, upTo, map-upTo-suc, map-upTo-same, among-map, among-upTo, dec-every, dec-some}
 use Rattle.sets.specs.Sets.{_⊂?_}
 use Rattle.semantics.specs.Definitions.Returned.{written}
 use Rattle.semantics.specs.Definitions.Listing.{View, recordOf, words}
@@ -104,6 +104,15 @@ views-more ws n v h = ap (viewsIn after) (add-one n) ∙ views-suc after n ∙ a
 
     here : viewIn after n ≡ v
     here i = record { guess = first i; known = at-end 1 i; possible = at-end 2 i; sets = at-end 3 i }
+
+-- a test of every view: by the records
+pub dec-views : (f : View → Bool) (ws : List ℕ) (n : ℕ) → Decides ((i : ℕ) → i < n → f (viewIn ws i) ≡ true) (every f (viewsIn ws n))
+unfolding viewsIn
+dec-views f ws n =
+    dec-iff (
+      λ h i l. h (viewIn ws i) (among-map (viewIn ws) (upTo n) .1 (i, among-upTo n .1 l, refl)),
+      λ h v m. let (i, k, e) = among-map (viewIn ws) (upTo n) .0 m in ap f e ∙ h i (among-upTo n .0 k),
+    ) (dec-every f (λ v. f v ≡ true) (viewsIn ws n) (λ v _. dec-self (f v)))
 
 -- "proper subset of a world view's guess": by the records
 pub dec-covers : (ws : List ℕ) (n g : ℕ) → Decides ((i : ℕ) × (i < n) × ((g ⊂? getD ws (4 * i) 0) ≡ true)) (some (λ v. g ⊂? v .guess) (viewsIn ws n))

@@ -10,7 +10,8 @@ use Rattle.semantics.specs.Definitions.Listing.{Tally, words}
 use Rattle.semantics.specs.Walk.{Outcome, Covered, Ruled, Empty, Other, IsView, countedBy, viewsBy, outcome, advance}
 use Rattle.listing.specs.declared.outcomes.Tally.{Tally as Counts}
 use Rattle.listing.specs.Records.{viewsIn}
-use Rattle.listing.specs.Outcomes.{tallyFrom, AtMost}
+use Rattle.semantics.specs.Theorems.Tally.{AtMost}
+use Rattle.listing.specs.Outcomes.{tallyFrom}
 use Rattle.listing.specs.Walks.{walkedIn}
 use Rattle.listing.proofs.Placed.{placed, views-more}
 

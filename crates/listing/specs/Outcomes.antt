@@ -1,5 +1,5 @@
 -- What a guess counts as, and the six counts, as the code has them. Assumes nothing.
-use Prim.Native.Nat.{ℕ, _≤_}
+use Prim.Native.Nat.{ℕ}
 use mathlib.Core.Path.{_≡_}
 use mathlib.Core.Bool.{false}
 use mathlib.Core.List.{List}
@@ -18,10 +18,6 @@ use Rattle.listing.specs.Records.{viewFrom}
 -- the tally that the counts of the code stand for
 abbrev pub tallyFrom : Counts → Tally
 tallyFrom t = record { views = t .views; covered = t .covered; ruled = t .ruled; tested = t .tested; empty = t .empty; other = t .other }
-
--- none of them is over n
-abbrev pub AtMost : Tally → ℕ → Type 0
-AtMost t n = (t .views ≤ n) × (t .covered ≤ n) × (t .ruled ≤ n) × (t .tested ≤ n) × (t .empty ≤ n) × (t .other ≤ n)
 
 -- the outcome that the code's stands for
 abbrev pub outcomeFrom : Outcome → walk.Outcome

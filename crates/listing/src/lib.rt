@@ -1,4 +1,5 @@
 // The listing: the walk along the order, the records of the world views, and the six counts.
+pub mod atoms;
 pub mod outcomes;
 pub mod records;
 
@@ -19,7 +20,8 @@ ghost use Rattle.semantics.specs.Definitions.Check.{mostNegations, opened};
 ghost use Rattle.sheet.specs.declared.Opened.the-variants.{Accepted};
 ghost use Rattle.sheet.specs.Opened.{openedOf};
 ghost use Rattle.listing.specs.Records.{viewsIn};
-ghost use Rattle.listing.specs.Outcomes.{tallyFrom, AtMost};
+ghost use Rattle.semantics.specs.Theorems.Tally.{AtMost};
+ghost use Rattle.listing.specs.Outcomes.{tallyFrom};
 ghost use Rattle.listing.specs.Walks.{walkedIn, Advanced, ListingOf};
 
 // One guess more: covered by a view already met, and then it costs no reduct; or examined, and its record written where it is a view.

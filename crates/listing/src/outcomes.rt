@@ -16,7 +16,8 @@ ghost use Rattle.semantics.specs.Definitions.Listing.{words};
 ghost use Rattle.sheet.specs.declared.Opened.the-variants.{Accepted};
 ghost use Rattle.sheet.specs.Opened.{openedOf};
 ghost use Rattle.semantics.specs.Walk.{countedBy, viewsBy};
-ghost use Rattle.listing.specs.Outcomes.{tallyFrom, AtMost, outcomeFrom, ExaminedAs};
+ghost use Rattle.semantics.specs.Theorems.Tally.{AtMost};
+ghost use Rattle.listing.specs.Outcomes.{tallyFrom, outcomeFrom, ExaminedAs};
 
 // What a guess counts as: covered, ruled, or tested and then by its verdict.
 pub enum Outcome {

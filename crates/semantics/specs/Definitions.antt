@@ -14,3 +14,5 @@ pub mod Order
 pub mod Listing
 pub mod Query
 pub mod Calls
+pub mod Desk
+pub mod Program

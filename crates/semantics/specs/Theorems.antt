@@ -16,6 +16,7 @@ pub mod Subjects
 pub mod Reduct
 pub mod Stable
 pub mod Verdict
+pub mod Below
 pub mod Calls
 pub mod Closure
 pub mod Apart
@@ -28,4 +29,7 @@ pub mod Walk
 pub mod Listing
 pub mod Records
 pub mod ListCall
+pub mod Desk
 pub mod Query
+pub mod QueryCall
+pub mod Decimal

@@ -14,7 +14,7 @@ use engine::verdict;
 ghost use Prim.Native.Nat.{_<_, _≤_};
 ghost use lib.ListN.{length};
 
-fn judge(sheet: &[u8], guess: u16) {
+fn judge(sheet: &[u8], guess: u32) {
     match verdict(sheet, guess) {
         Judged::Empty => {
             io::write_all(1, b" empty");
@@ -39,7 +39,7 @@ fn judge(sheet: &[u8], guess: u16) {
     }
 }
 
-fn count(sheet: &[u8], guess: u16, out: &mut [u16]) {
+fn count(sheet: &[u8], guess: u32, out: &mut [u16]) {
     match belief_sets(sheet, guess, out) {
         Counted::Accepted { count } => {
             print(count);
@@ -50,20 +50,20 @@ fn count(sheet: &[u8], guess: u16, out: &mut [u16]) {
     }
 }
 
-fn lent(sheet: &[u8], guess: u16, out: &mut [u16]) {
+fn lent(sheet: &[u8], guess: u32, out: &mut [u16]) {
     fill(out);
     count(sheet, guess, out);
     io::write_all(1, b";");
     show(out);
 }
 
-fn part(sheet: &[u8], guess: u16, buffer: &mut [u16], words: usize) {
+fn part(sheet: &[u8], guess: u32, buffer: &mut [u16], words: usize) {
     if words <= buffer.len() {
         lent(sheet, guess, &mut buffer[0..words]);
     }
 }
 
-fn sets(sheet: &[u8], guess: u16, words: usize) {
+fn sets(sheet: &[u8], guess: u32, words: usize) {
     let mut buffer = [0u16; 32770];
     part(sheet, guess, &mut buffer, words);
 }
@@ -72,9 +72,9 @@ fn line(title: &[u8], sheet: &[u8], guess: u16, words: u16) {
     io::write_all(1, title);
     print(guess as usize);
     io::write_all(1, b":");
-    judge(sheet, guess);
+    judge(sheet, guess as u32);
     io::write_all(1, b";");
-    sets(sheet, guess, words as usize);
+    sets(sheet, guess as u32, words as usize);
     io::write_all(1, b"\n");
 }
 

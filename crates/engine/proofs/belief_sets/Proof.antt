@@ -4,9 +4,9 @@ use lib.ListN.{length}
 use lib.Seq.{length-take-le}
 use native.Mathlib.Omega.{arith}
 use Rattle.semantics.specs.Definitions.Returned.{refusal}
-use Rattle.semantics.specs.Definitions.Calls.{beliefSetsCall}
+use Rattle.semantics.specs.Definitions.Calls.{openedFor, beliefSetsCall}
 use Rattle.engine.specs.declared.Counted.the-variants.{Accepted, Refused}
-use Rattle.engine.proofs.Laws.{turned-back, opened-too, sets-returned, too-short, kept, filled, sets-met}
+use Rattle.engine.proofs.Laws.{turned-back, forGuess, opened-too, guess-fits, sets-returned, too-short, kept, filled, sets-met}
 use borrow.Author.Needs.{needs}
 use Rattle.engine.proofs.belief_sets.Statement.{statement}
 use Rattle.engine.proofs.belief_sets.Tie as tie
@@ -17,13 +17,20 @@ open-for-requires c κs = search needs
 enum-known-x : tie.Need-enum-known-x
 enum-known-x c = search needs
 
+cast-belief-sets : tie.Need-cast-belief-sets
+cast-belief-sets c =
+    let a = c .before .before .before .before .before .before .args in
+    let h = guess-fits (a .sheet .now) (a .guess) (sym (c .before .before .before .open-for .ensures) ∙ c .before .x .given .1) in
+    omega (arith, h)
+
 slice-aggregate-belief-sets : tie.Need-slice-aggregate-belief-sets
 slice-aggregate-belief-sets c = search needs
 
 belief-sets-requires : tie.Need-belief-sets-requires
+unfolding openedFor
 belief-sets-requires c κs =
     let a = c .before .before .before .before .before .before .before .args in
-    (opened-too (a .sheet .now) (a .guess) (sym (c .before .before .before .before .open-for .ensures) ∙ c .before .before .x .given .1), search needs)
+    (opened-too forGuess (a .sheet .now) (a .guess) (sym (c .before .before .before .before .open-for .ensures) ∙ c .before .before .x .given .1), search needs)
 
 returns : tie.Need-returns
 returns c =
@@ -62,11 +69,11 @@ returns-2 c =
     long (c .before .before .write .ensures))
 
 returns-3 : tie.Need-returns-3
-unfolding beliefSetsCall
+unfolding openedFor beliefSetsCall
 returns-3 c =
     let a = c .before .before .before .before .before .before .args in
     sets-met (a .sheet .now) (a .guess) (a .out .now) (Refused _ _) (a .out .now)
-    (kept length (λ w. w) (a .out .now) (sym (turned-back (a .sheet .now) (a .guess) _ (sym (c .before .before .before .open-for .ensures) ∙ c .before .number .given .1))))
+    (kept length (λ w. w) (a .out .now) (sym (turned-back forGuess (a .sheet .now) (a .guess) _ (sym (c .before .before .before .open-for .ensures) ∙ c .before .number .given .1))))
 
 pub belief-sets-spec : {M : Type 1} → statement M
 belief-sets-spec =
@@ -74,6 +81,7 @@ belief-sets-spec =
     (tie.spec
     open-for-requires
     enum-known-x
+    cast-belief-sets
     slice-aggregate-belief-sets
     belief-sets-requires
     returns

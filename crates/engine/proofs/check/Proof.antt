@@ -1,12 +1,10 @@
 -- `engine::check` meets its contract. Assumes nothing.
 use borrow.Author.Needs.{needs}
-use lib.ListN.{length}
 use mathlib.Core.Path.{_≡_, sym, ap, _∙_}
 use Prim.Native.Nat.{ℕ}
 use Rattle.semantics.specs.Definitions.Reading.{Reading}
-use Rattle.semantics.specs.Definitions.Sheet.{Sheet, atoms}
-use Rattle.semantics.specs.Definitions.Setting.{k}
-use Rattle.semantics.specs.Definitions.Check.{setting, opened, Numbers, check}
+use Rattle.semantics.specs.Definitions.Sheet.{Sheet}
+use Rattle.semantics.specs.Definitions.Check.{opened, Numbers, numbersOf, check}
 use Rattle.semantics.specs.Definitions.Returned.{Returned, accepted, refusal, returned}
 use Rattle.sheet.specs.declared.Contents.{Contents}
 use Rattle.sheet.specs.declared.Opened.the-variants.{Accepted, Refused}
@@ -16,7 +14,7 @@ use Rattle.engine.proofs.check.Tie as tie
 
 -- what the check returns for a reading of the sheet
 abbrev of : Reading Sheet → Returned Numbers
-of r = returned r (λ x. accepted (record { atoms = atoms x; rules = length (x .rules); negations = k (setting x) }))
+of r = returned r (λ x. accepted (numbersOf x))
 
 -- the same from what opening the sheet answers
 of-accepted : (r : Reading Sheet) {x : Contents} → openedOf r ≡ Accepted x

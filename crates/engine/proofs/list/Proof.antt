@@ -5,7 +5,7 @@ use native.Mathlib.Omega.{arith}
 use lib.ListN.{length}
 use Rattle.semantics.specs.Definitions.Check.{opened}
 use Rattle.semantics.specs.Definitions.Returned.{refusal}
-use Rattle.semantics.specs.Definitions.Calls.{listCall, recordsOf}
+use Rattle.semantics.specs.Definitions.Calls.{recordsNeed, listCall, recordsOf}
 use Rattle.semantics.specs.Theorems.ListCall.{list-refused}
 use Rattle.sheet.specs.Opened.{opened-refused}
 use Rattle.listing.specs.Records.{viewsIn-long}
@@ -73,7 +73,7 @@ returns-3 c =
     let a = c .before .before .before .before .before .before .args in
     let told = opened-refused (opened (a .sheet .now)) (sym (c .before .before .before .«open» .ensures) ∙ c .before .number .given .1) in
     listing-met (a .sheet .now) (a .out .now) (Refused _ _) (a .out .now)
-    (kept (λ v. v .tally) recordsOf (a .out .now) (list-refused (a .sheet .now) (length (a .out .now)) _ _ .1 (inl told)))
+    (kept (λ v. v .tally) recordsOf (a .out .now) (list-refused recordsNeed (a .sheet .now) (length (a .out .now)) _ _ .1 (inl told)))
 
 pub list-spec : {M : Type 1} → statement M
 list-spec =

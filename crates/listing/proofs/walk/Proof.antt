@@ -6,7 +6,8 @@ use mathlib.Core.Logic.{⊎-elim}
 use native.Mathlib.Omega.{arith}
 use lib.ListN.{length}
 use Rattle.listing.specs.declared.outcomes.Tally.{Tally}
-use Rattle.listing.specs.Outcomes.{tallyFrom, AtMost}
+use Rattle.semantics.specs.Theorems.Tally.{AtMost}
+use Rattle.listing.specs.Outcomes.{tallyFrom}
 use Rattle.listing.specs.Walks.{walkedIn}
 use Rattle.guess.specs.Accepted.{few-negations}
 use Rattle.listing.proofs.Along.{Along, along-first, along-more, along-same, still-few, along-whole}

@@ -1,4 +1,5 @@
--- Document 01, "Turned back at the door": what the calls for a guess and the listing return, for every sheet, guess and number of words.
+-- Document 01, "Turned back at the door": what the calls for a guess, the listing and the query return, for every sheet, guess, atom and
+-- number of words.
 use Prim.Native.Nat.{ℕ, _*_, _^_}
 use mathlib.Core.List.{List}
 use lib.Dec.{ltb}
@@ -10,13 +11,22 @@ use Rattle.semantics.specs.Definitions.Check.{setting, opened}
 use Rattle.semantics.specs.Definitions.Returned.{Returned, accepted, returned, limited}
 use Rattle.semantics.specs.Definitions.Verdict.{beliefSets, Verdict, verdict}
 use Rattle.semantics.specs.Definitions.Listing.{Tally, tallyOf, View, listing, words}
+use Rattle.semantics.specs.Definitions.Query.{Answer, query}
 
--- What a call that takes a guess checks first: 1 to 7, and then "8, 0" where "guess not below 2^k"
-unfoldable pub openedFor : List ℕ → (guess : ℕ) → Reading Sheet
-openedFor sheet g =
+-- What a call that takes a guess or an atom checks first: 1 to 7, and then a refusal of its own, place 0, where that is not below a bound
+abbrev pub openedBelow : (bound : Setting → ℕ) (number : ℕ) → List ℕ → ℕ → Reading Sheet
+openedBelow bound number sheet n =
     opened sheet then λ x end.
-    require (ltb g (2 ^ k (setting x))) 8 0
+    require (ltb n (bound (setting x))) number 0
     (field x end)
+
+-- for a guess: "8, 0" where "guess not below 2^k"
+unfoldable pub openedFor : List ℕ → (guess : ℕ) → Reading Sheet
+openedFor = openedBelow (λ s. 2 ^ k s) 8
+
+-- for an atom: "10, 0" where "queried atom number not below the atom count"
+unfoldable pub openedForAtom : List ℕ → (atom : ℕ) → Reading Sheet
+openedForAtom = openedBelow (λ s. s .atoms) 10
 
 -- "Verdict on a guess"
 unfoldable pub verdictCall : List ℕ → (guess : ℕ) → Returned Verdict
@@ -43,11 +53,23 @@ resultOf s = record { tally = tallyOf s; views = listing s }
 abbrev pub recordsOf : Result → List ℕ
 recordsOf r = words (r .views)
 
--- a result into so many words: 9 where "4 times views [..] over the words"
-abbrev pub resultInto : (words : ℕ) → Result → Returned Result
-resultInto words r = limited (4 * length (r .views)) words (length (r .views)) r
+-- the result of a listing into so many words, where views need some of them: 9 where these are "over the words"
+abbrev pub resultInto : (needed : ℕ → ℕ) (words : ℕ) → Result → Returned Result
+resultInto needed words r = limited (needed (length (r .views))) words (length (r .views)) r
 
--- "Order and listing". The six numbers are `answer (λ r. r .tally)` of it, the lent buffer then `afterwards recordsOf` of it. ("Words after
--- the last record keep their contents.")
-unfoldable pub listCall : List ℕ → (words : ℕ) → Returned Result
-listCall sheet words = returned (opened sheet) (λ x. resultInto words (resultOf (setting x)))
+-- the listing of a sheet into so many words
+abbrev pub listInto : (needed : ℕ → ℕ) → List ℕ → (words : ℕ) → Returned Result
+listInto needed sheet words = returned (opened sheet) (λ x. resultInto needed words (resultOf (setting x)))
+
+-- "4 times views"
+abbrev pub recordsNeed : (views : ℕ) → ℕ
+recordsNeed views = 4 * views
+
+-- "Order and listing"; 9 where these are "over the words". The six numbers are `answer (λ r. r .tally)` of it, the lent buffer then
+-- `afterwards recordsOf` of it. ("Words after the last record keep their contents.")
+abbrev pub listCall : List ℕ → (words : ℕ) → Returned Result
+listCall = listInto recordsNeed
+
+-- "Query of an atom"
+unfoldable pub queryCall : List ℕ → (atom : ℕ) → Returned Answer
+queryCall sheet a = returned (openedForAtom sheet a) (λ x. accepted (query (setting x) a))

@@ -29,5 +29,8 @@ pub record Numbers : Type 0 where
   pub rules : ℕ
   pub negations : ℕ
 
+abbrev pub numbersOf : Sheet → Numbers
+numbersOf x = record { atoms = atoms x; rules = length (x .rules); negations = k (setting x) }
+
 unfoldable pub check : List ℕ → Returned Numbers
-check s = returned (opened s) (λ x. accepted (record { atoms = atoms x; rules = length (x .rules); negations = k (setting x) }))
+check s = returned (opened s) (λ x. accepted (numbersOf x))

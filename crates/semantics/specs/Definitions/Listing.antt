@@ -47,6 +47,20 @@ pub record Tally : Type 0 where
   pub empty : ℕ
   pub other : ℕ
 
+-- the six in that order
+abbrev pub six : Tally → List ℕ
+six t = t .views ∷ t .covered ∷ t .ruled ∷ t .tested ∷ t .empty ∷ t .other ∷ []
+
+abbrev pub tallied : (views covered ruled tested empty other : ℕ) → Tally
+tallied views covered ruled tested empty other = record {
+  views = views;
+  covered = covered;
+  ruled = ruled;
+  tested = tested;
+  empty = empty;
+  other = other;
+}
+
 -- the six, by how guesses of a name are counted
 abbrev pub tallyBy : Setting → ((ℕ → Bool) → ℕ) → Tally
 tallyBy s count = record {

@@ -11,11 +11,11 @@ use Rattle.semantics.specs.Definitions.Listing.{View, listing}
 pub data Answer : Type 0 where
   Yes No Open : Answer
 
--- ""yes" if it is known in every world view, otherwise "no" if it is possible in none, otherwise "open". A sheet without world views
+-- by the records: ""yes" if it is known in every world view, otherwise "no" if it is possible in none, otherwise "open". A sheet without world views
 -- answers "yes"."
-unfoldable pub answer : List View → ℕ → Answer
-answer vs a = cond (every (λ v. a ∈? v .known) vs) Yes (cond (every (λ v. not (a ∈? v .possible)) vs) No Open)
+unfoldable pub answerBy : List View → ℕ → Answer
+answerBy vs a = cond (every (λ v. a ∈? v .known) vs) Yes (cond (every (λ v. not (a ∈? v .possible)) vs) No Open)
 
 -- "Query of an atom": over the world views of the listing
 abbrev pub query : Setting → ℕ → Answer
-query s a = answer (listing s) a
+query s a = answerBy (listing s) a

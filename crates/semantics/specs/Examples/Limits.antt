@@ -7,7 +7,7 @@ use Rattle.semantics.specs.Definitions.Returned.{Returned, accepted, ref
 use Rattle.semantics.specs.Examples.Sheets.{zeros, rule, numbers}
 
 -- the number of atoms, n, and the names a, b, c and so on
-abbrev letters : ℕ → List ℕ
+abbrev pub letters : ℕ → List ℕ
 letters n = n ∷ flat (λ i. 1 ∷ (97 + i) ∷ []) (upTo n)
 
 abbrev pub answers : List (List ℕ × Returned Numbers)

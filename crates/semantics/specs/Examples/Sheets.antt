@@ -4,7 +4,7 @@ use mathlib.Core.List.{List, [], _∷_, _++_}
 use lib.ListN.{length}
 use Rattle.sets.specs.Lists.{flat}
 use Rattle.semantics.specs.Definitions.Check.{Numbers}
-use Rattle.semantics.specs.Definitions.Listing.{View, Tally}
+use Rattle.semantics.specs.Definitions.Listing.{View, Tally, tallied}
 
 -- ---- bytes, spelled out here and not by the layout of Theorems/Layout.antt
 -- n zero bytes
@@ -45,7 +45,7 @@ abbrev pub view : (guess known possible sets : ℕ) → View
 view guess known possible sets = record { guess = guess; known = known; possible = possible; sets = sets }
 
 abbrev pub tally : (views covered ruled tested empty other : ℕ) → Tally
-tally views covered ruled tested empty other = record { views = views; covered = covered; ruled = ruled; tested = tested; empty = empty; other = other }
+tally = tallied
 
 -- the bytes, what the check answers, and the list: "Views as (guess, known, possible, sets); tally as above."
 pub record Listed : Type 0 where

@@ -1,22 +1,19 @@
 -- What the check answers: it accepts exactly the layouts of names and rules that fit, with their numbers, and its refusals are 1 to 7, each
 -- at a place of at most 1,221. Assumes nothing.
 use Prim.Native.Nat.{ℕ, _≤_}
-use mathlib.Core.Path.{_≡_, ap, _∙_}
+use mathlib.Core.Path.{_≡_, refl, ap, _∙_}
 use mathlib.Core.List.{List, map}
 use mathlib.Core.Logic.{_↔_}
 use lib.ListN.{length}
-use Rattle.semantics.specs.Definitions.Sheet.{Sheet, atoms, ruleOfMasks}
-use Rattle.semantics.specs.Definitions.Setting.{settingOf, k}
-use Rattle.semantics.specs.Definitions.Check.{setting, opened, Numbers, check}
+use Rattle.semantics.specs.Definitions.Sheet.{atoms, ruleOfMasks}
+use Rattle.semantics.specs.Definitions.Setting.{Setting, settingOf, k}
+use Rattle.semantics.specs.Definitions.Check.{setting, opened, Numbers, numbersOf, check}
 use Rattle.semantics.specs.Definitions.Returned.{accepted, refusal, returned}
-use Rattle.semantics.specs.Theorems.Returned.{was-accepted, reading-refused}
+use Rattle.semantics.specs.Theorems.Returned.{SheetOf, was-accepted, reading-refused}
 use Rattle.semantics.specs.Theorems.Places.{refusal-place, refusal-number}
 use Rattle.semantics.specs.Theorems.Layout.{IsBytes, sheetBytes, Fits}
 use Rattle.semantics.specs.Theorems.Fitting.{fits-accepted}
 use Rattle.semantics.specs.Theorems.Exact.{accepted-exactly}
-
-abbrev numbersOf : Sheet → Numbers
-numbersOf x = record { atoms = atoms x; rules = length (x .rules); negations = k (setting x) }
 
 pub check-accepts : (names rules : List (List ℕ)) → Fits names rules
     → check (sheetBytes names rules)
@@ -39,3 +36,10 @@ check-exactly s small = (
   λ p. accepted-exactly s small .0 (let (x, end, d, _) = was-accepted (λ x. accepted (numbersOf x)) (opened s) (p .1) in (x, end, d)),
   λ p. let (names, rules, f, e) = p in (_, ap check e ∙ check-accepts names rules f),
 )
+
+-- the sheet that was accepted
+pub checked-sheet : (s : List ℕ) {n : Numbers} → check s ≡ accepted n → (o : Setting) × SheetOf s o
+unfolding check
+checked-sheet s e =
+    let (x, end, d, _) = was-accepted (λ x. accepted (numbersOf x)) (opened s) e in
+    (setting x, record { says = x; end = end; accepts = d; means = refl })

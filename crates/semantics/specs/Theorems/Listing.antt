@@ -14,6 +14,7 @@ use Rattle.semantics.specs.Definitions.Order.{order}
 use Rattle.semantics.specs.Definitions.Listing.{isWorldView, tallyOf, View, viewOf, viewsAlong, listing}
 use Rattle.semantics.specs.Theorems.Verdict.{Verifiable, dec-verifiable, verified-verdict}
 use Rattle.semantics.specs.Theorems.WorldView.{WorldView, definition-6, maximal-superset}
+use Rattle.semantics.specs.Theorems.Tally.{Number, number-only, tally-of}
 use Rattle.semantics.specs.Theorems.Order.{Before, Enumerates, order-sorted, order-enumerates}
 use Rattle.semantics.specs.Theorems.Walk.{count-along}
 
@@ -80,6 +81,10 @@ views-of s =
 
 pub listing-long : (s : Setting) → length (listing s) ≡ tallyOf s .views
 listing-long s = views-long s (order (k s)) (order-enumerates (k s))
+
+-- as many as there are world views
+pub listing-many : (s : Setting) {n : ℕ} → Number s (WorldView s) n → n ≡ length (listing s)
+listing-many s m = number-only m (tally-of s .views-are) ∙ sym (listing-long s)
 
 -- a guess gets a view exactly when it is reduct-verifiable and no proper superset of it is
 pub gets-one : (s : Setting) (vs : List View) → ViewsOf s vs → (g : ℕ) → g < 2 ^ k s → ((v : View) × (v among vs) × (v .guess ≡ g)) ↔ WorldView s g

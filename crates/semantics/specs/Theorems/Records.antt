@@ -1,13 +1,13 @@
 -- The records of a listing, as they stand in a buffer: one for each world view and no other, in the order. Assumes nothing.
-use Prim.Native.Nat.{ℕ, zero, suc, _+_, _*_, _^_, _<_}
-use mathlib.Core.Path.{_≡_, refl, sym, ap, _∙_}
+use Prim.Native.Nat.{ℕ, zero, suc, _*_, _^_, _<_}
+use mathlib.Core.Path.{_≡_, refl, sym, ap, _∙_, subst}
 use mathlib.Core.List.{List, [], _∷_, _++_}
 use mathlib.Core.Logic.{_↔_, ⊎-elim}
 use native.Mathlib.Omega.{arith}
 use native.Mathlib.Nat.{le-of-suc-le-suc, not-suc-le-zero}
 use lib.ListN.{length, getD, take, drop}
 use Rattle.sets.specs.Decides.{decided, dec-eq, dec-le}
-use Rattle.sets.specs.Lists.{_among_, flat, getD-among, among-place, no-members}
+use Rattle.sets.specs.Lists.{flat, getD-among, among-place, no-members}
 use Rattle.sets.specs.Pairwise.{pairwise-places}
 use Rattle.semantics.specs.Definitions.Setting.{Setting, k}
 use Rattle.semantics.specs.Definitions.Listing.{View, viewOf, recordOf, words}
@@ -36,6 +36,18 @@ pub record RecordsOf (s : Setting) (n : ℕ) (buffer : List ℕ) : Type 0 where
   pub in-order : (i j : ℕ) → i < j → j < n → Before (guessAt buffer i) (guessAt buffer j)
   -- none exactly when no guess is reduct-verifiable
   pub none-exactly : (n ≡ 0) ↔ ((g : ℕ) → g < 2 ^ k s → Verifiable s g → ⊥)
+
+-- the guess of a record is its first word
+first-word : (buffer : List ℕ) (m : ℕ) → getD (take 4 (drop m buffer)) 0 0 ≡ getD buffer m 0
+first-word [] zero = refl
+first-word [] (suc m) = refl
+first-word (w ∷ buffer) zero = refl
+first-word (w ∷ buffer) (suc m) = first-word buffer m
+
+pub guess-below : {s : Setting} {n : ℕ} {buffer : List ℕ} → RecordsOf s n buffer → (i : ℕ) → i < n → guessAt buffer i < 2 ^ k s
+guess-below {s} {n} {buffer} o i h =
+    let (g, _, _, _, l, _, _, e) = o .four-words i h in
+    subst (λ z. z < 2 ^ k s) (sym (ap (λ r. getD r 0 0) e) ∙ first-word buffer (4 * i)) l
 
 none : View
 none = record { guess = 0; known = 0; possible = 0; sets = 0 }

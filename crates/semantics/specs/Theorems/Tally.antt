@@ -1,5 +1,5 @@
 -- "each of the six numbers says how many guesses bear its name"; "Each guess counts once": they add up. Assumes nothing.
-use Prim.Native.Nat.{ℕ, _+_, _^_, _<_}
+use Prim.Native.Nat.{ℕ, _+_, _^_, _≤_, _<_}
 use mathlib.Core.Path.{_≡_, refl, sym, ap, _∙_}
 use mathlib.Core.Bool.{Bool, true, false, not, _&&_}
 use mathlib.Core.List.{List}
@@ -40,6 +40,10 @@ module _ (s : Setting) where
   tested-counted =
       length-shared (tested s) (testedEmpty s) (testedOther s) (isWorldView s) (guesses s)
       (λ g m. rw (view-tested s g (among-upTo (2 ^ k s) .0 m)) (by-verdict (tested s g) (verdict s g)))
+
+-- none of the six is over n
+abbrev pub AtMost : Tally → ℕ → Type 0
+AtMost t n = (t .views ≤ n) × (t .covered ≤ n) × (t .ruled ≤ n) × (t .tested ≤ n) × (t .empty ≤ n) × (t .other ≤ n)
 
 -- ---- how many guesses bear a name
 -- n is the number of guesses of which P holds
