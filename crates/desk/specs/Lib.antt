@@ -1,0 +1,2 @@
+-- What the desk call promises.
+pub mod Demand3

@@ -1,0 +1,49 @@
+// The listing for the desk program, which is written in Rust: on numbers and bytes, two bytes a word, low byte first.
+mod words;
+
+use engine::Listed;
+use engine::list;
+use words::write_listing;
+ghost use mathlib.Core.Path.{_≡_};
+ghost use lib.ListN.{length};
+ghost use Rattle.semantics.specs.Definitions.Returned.{afterwards};
+ghost use Rattle.semantics.specs.Definitions.Desk.{deskCall, deskNumber, deskBytes};
+ghost use Rattle.desk.specs.Demand3.{DeskDemand};
+
+// The listing: the six counts and then a record for each world view, into a lent buffer. Answers 0, or the number of the refusal times 65,536
+// plus its place: 1 to 7, then 9.
+#[no_mangle]
+pub extern "C" fn budkarv_list(sheet: &[u8], out: &mut [u8]) -> u32
+    ensures { λ r. ⌜ r ≡ deskNumber (deskCall (now (sheet .entry)) (length (now (out .entry)))) ⌝ }
+    ensures { λ r. ⌜ now (out .exit) ≡ afterwards deskBytes (deskCall (now (sheet .entry)) (length (now (out .entry)))) (now (out .entry)) ⌝ }
+    ensures { λ r. ⌜ DeskDemand (now (sheet .entry)) r (now (out .entry)) (now (out .exit)) ⌝ }
+{
+    // four words for each of at most 4,096 views
+    let mut records = [0u16; 16384];
+    match list(sheet, &mut records[..]) {
+        Listed::Accepted {
+            views,
+            covered,
+            ruled,
+            tested,
+            empty,
+            other,
+        } => {
+            if out.len() / 2 < 6 + 4 * views {
+                return 9 * 65536 + views as u32;
+            }
+            write_listing(
+                views,
+                covered,
+                ruled,
+                tested,
+                empty,
+                other,
+                &records[..],
+                &mut out[..],
+            );
+            0
+        }
+        Listed::Refused { number, place } => number as u32 * 65536 + place as u32,
+    }
+}
