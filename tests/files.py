@@ -20,15 +20,15 @@ def case_bytes(title, sheet, *fields):
     return bytes([len(text)]) + text + two_bytes(len(sheet)) + sheet + b"".join(two_bytes(field) for field in fields)
 
 
-def write_or_compare(program, made):
-    """Writes what `made` gives, for each case its bytes and its output; with --check compares only."""
+def write_or_compare(program, made, titled=True):
+    """Writes what `made` gives, for each case its bytes and its output; with --check compares only. Titles differ."""
     if sys.argv[1:] not in ([], ["--check"]):
         sys.exit(f"use: {program}.py [--check]")
     cases = made()
     given = b"".join(data for data, _ in cases)
     expected = "".join(text for _, text in cases).encode("ascii")
     starts = [line.partition(b":")[0] for line in expected.splitlines()]
-    if len(set(starts)) != len(starts):
+    if titled and len(set(starts)) != len(starts):
         sys.exit("two lines begin alike before their colons")
     if len(given) > MOST_INPUT:
         sys.exit(f"{len(given)} bytes of input are too many")

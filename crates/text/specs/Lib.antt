@@ -1,0 +1,4 @@
+-- What the contracts of `text` cite.
+pub mod Appended
+pub mod Names
+pub mod Lines
