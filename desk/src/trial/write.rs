@@ -1,0 +1,45 @@
+//! Sheets written from names and rules.
+
+use crate::solver::sheet::Rule;
+
+pub const HEAD: usize = 0;
+pub const PLAIN: usize = 1;
+pub const NOT: usize = 2;
+pub const NOT_NOT: usize = 3;
+pub const K: usize = 4;
+pub const NOT_K: usize = 5;
+pub const M: usize = 6;
+pub const NOT_M: usize = 7;
+
+/// A rule of some masks; the others are empty.
+pub fn rule(masks: &[(usize, u16)]) -> Rule {
+    let mut rule = [0; 8];
+    for &(mask, atoms) in masks {
+        rule[mask] = atoms;
+    }
+    rule
+}
+
+/// The bytes of a sheet. Nothing is checked: too many names or too long a name make a sheet that is to be refused.
+pub fn sheet<N: AsRef<[u8]>>(names: &[N], rules: &[Rule]) -> Vec<u8> {
+    let mut bytes = vec![names.len() as u8];
+    for name in names {
+        let name = name.as_ref();
+        bytes.push(name.len() as u8);
+        bytes.extend(name);
+    }
+    bytes.push(rules.len() as u8);
+    bytes.extend(rules.iter().flatten().flat_map(|mask| mask.to_le_bytes()));
+    bytes
+}
+
+/// A sheet whose atoms are named a, b, c and so on, at most 26.
+pub fn lettered(atoms: usize, rules: &[Rule]) -> Vec<u8> {
+    let names: Vec<[u8; 1]> = (b'a'..=b'z').take(atoms).map(|letter| [letter]).collect();
+    sheet(&names, rules)
+}
+
+/// The bytes in base sixteen, for messages.
+pub fn hex(bytes: &[u8]) -> String {
+    bytes.iter().map(|byte| format!("{byte:02x}")).collect()
+}
