@@ -11,8 +11,8 @@ use Rattle.semantics.specs.Definitions.Listing.{View, listing}
 pub data Answer : Type 0 where
   Yes No Open : Answer
 
--- by the records: ""yes" if it is known in every world view, otherwise "no" if it is possible in none, otherwise "open". A sheet without world views
--- answers "yes"."
+-- by the records: ""yes" if it is known in every world view, otherwise "no" if it is possible in none, otherwise "open". A sheet without
+-- world views answers "yes"."
 unfoldable pub answerBy : List View → ℕ → Answer
 answerBy vs a = cond (every (λ v. a ∈? v .known) vs) Yes (cond (every (λ v. not (a ∈? v .possible)) vs) No Open)
 
