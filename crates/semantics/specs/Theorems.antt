@@ -1,5 +1,5 @@
--- The papers' reading of the definitions. Those before Negations, Calls and ListCall are about the bytes of a sheet; Negations, Subjects, Reduct
--- and ModalReduct about its rules; the others about any setting.
+-- The papers' reading of the definitions. Those before Negations are about the bytes of a sheet, and so are Below, Calls, ListCall, Desk and
+-- QueryCall; Negations, Subjects, Reduct and ModalReduct about its rules; Decimal about the digits of a number; the others about any setting.
 pub mod Reading
 pub mod Fields
 pub mod Names
