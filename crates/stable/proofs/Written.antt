@@ -1,19 +1,33 @@
 -- Programs in words, rule by rule. Assumes nothing.
 use Prim.Native.Nat.{ℕ, _+_, _*_, _≤_, _<_}
 use mathlib.Core.Path.{_≡_, refl, sym, ap, ap₂, _∙_}
-use mathlib.Core.Bool.{true, false, true≢false}
+use mathlib.Core.Bool.{Bool, true, false, not, _&&_, true≢false}
 use mathlib.Core.List.{List, [], _∷_, _++_, append-nil, map, map-append}
 use native.Mathlib.Omega.{arith}
 use native.Mathlib.Numerals.{add-one}
+use borrow.Author.Tests.{ltb-true}
+use lib.Dec.{ltb}
 use lib.ListN.{length, getD, set, length-set}
 use lib.Seq.{getD-set-same, getD-set-other}
-use Rattle.sets.specs.Decides.{Decides, is-true}
+use Rattle.sets.specs.Decides.{Decides, is-true, is-false}
 use Rattle.sets.specs.Lists.{keep, only, upTo, keep-snoc, map-upTo-suc, map-upTo-same, dec-each}
-use Rattle.sets.specs.Sets.{∅}
+use Rattle.sets.specs.Sets.{_meets?_, ∅}
 use Rattle.semantics.specs.Words.{ruleIn, programIn, program-more}
-use Rattle.semantics.specs.Definitions.Stable.{satisfies, isModel, positive}
+use Rattle.semantics.specs.Definitions.Stable.{satisfies, isModel, positive, smallerModel, stable}
 use Rattle.semantics.specs.Theorems.Stable.{Model, dec-model}
 use Rattle.stable.specs.Applied.{applies, applied, positiveIn, positiveProgramIn}
+use Rattle.stable.specs.Search.{stable-by-search}
+use Rattle.stable.specs.Tested.{ReducedBy}
+use Rattle.stable.specs.declared.Reduced.the-variants.{Model as AModel}
+
+-- what a test of rule j, of n, for failing says
+pub failed : (j n : ℕ) {b : Bool} → ltb j n && not b ≡ true → (j < n) × (b ≡ false)
+failed j n {b} e = go (ltb j n) b refl e
+  where
+    go : (a b : Bool) → ltb j n ≡ a → a && not b ≡ true → (j < n) × (b ≡ false)
+    go true true d z = absurd (true≢false (sym z))
+    go true false d z = (ltb-true j n d, refl)
+    go false b d z = absurd (true≢false (sym z))
 
 module _ (words : List ℕ) where
   pub dec-program : (n i : ℕ) → Decides ((k : ℕ) → k < n → satisfies i (ruleIn words k) ≡ true) (isModel (programIn words n) i)
@@ -27,6 +41,34 @@ module _ (words : List ℕ) where
   -- a rule that fails in i
   pub no-model : (n i k : ℕ) → k < n → satisfies i (positiveIn words k) ≡ false → Model (positiveProgramIn words n) i → ⊥
   no-model n i k h e m = true≢false (sym (dec-positive n i .yes (is-true (dec-model (positiveProgramIn words n) i) m) k h) ∙ e)
+
+  -- a program with a rule that fails in i
+  pub unstable : (n i k : ℕ) → k < n → satisfies i (ruleIn words k) ≡ false → false ≡ stable (programIn words n) i
+  unstable n i k h e =
+      let no-model : isModel (programIn words n) i ≡ false = is-false (dec-program n i) (λ f. true≢false (sym (f k h) ∙ e)) in
+      sym (stable-by-search (programIn words n) i ∙ ap (λ b. b && not (smallerModel (applied i (programIn words n)) i)) no-model)
+
+  -- a model, by the search over its rules whose bodies hold
+  pub searched : (n i : ℕ) (out : List ℕ) (m : ℕ) → ReducedBy words n i out (AModel m) → {b : Bool} → b ≡ smallerModel (positiveProgramIn out m) i
+      → not b ≡ stable (programIn words n) i
+  searched n i out m r e =
+      ap not (e ∙ ap (λ p. smallerModel p i) (r .2))
+      ∙ sym (stable-by-search (programIn words n) i ∙ ap (λ b. b && not (smallerModel (applied i (programIn words n)) i)) (r .1))
+
+  -- a rule whose body holds in i is satisfied there by its head alone, and one whose body doesn't hold is satisfied
+  module _ (i j : ℕ) where
+    pub unmet : applies i (ruleIn words j) ≡ true → getD words (4 * j) 0 meets? i ≡ false → satisfies i (ruleIn words j) ≡ false
+    unmet t m =
+        let z : 4 * j + 0 ≡ 4 * j = omega arith in
+        rw (z, t, m)
+
+    pub met : applies i (ruleIn words j) ≡ true → getD words (4 * j) 0 meets? i ≡ true → satisfies i (ruleIn words j) ≡ true
+    met t m =
+        let z : 4 * j + 0 ≡ 4 * j = omega arith in
+        rw (z, t, m)
+
+    pub idle : applies i (ruleIn words j) ≡ false → satisfies i (ruleIn words j) ≡ true
+    idle t = rw t
 
   -- one rule more: it is among those whose bodies hold in i, or not
   more : (i j : ℕ) → applied i (programIn words (j + 1)) ≡ applied i (programIn words j) ++ map positive (only (applies i (ruleIn words j)) (ruleIn words j))

@@ -1,3 +1,4 @@
--- What the test of a set goes over, and that it decides stability.
+-- What the test of a set goes over, that it decides stability, and what the answers of the code mean.
 pub mod Applied
 pub mod Search
+pub mod Tested

@@ -7,9 +7,21 @@ ghost use Prim.Native.Nat.{_+_, _*_, _≤_};
 ghost use lib.Dec.{ltb};
 ghost use lib.ListN.{length};
 ghost use Rattle.semantics.specs.Words.{ruleIn, programIn};
-ghost use Rattle.semantics.specs.Definitions.Sheet.{mostRules};
-ghost use Rattle.semantics.specs.Definitions.Stable.{satisfies, isModel, smallerModel, stable as isStable};
-ghost use Rattle.stable.specs.Applied.{applies as appliesIn, applied, positiveIn, positiveProgramIn};
+ghost use Rattle.semantics.specs.Definitions.Stable.{satisfies, smallerModel, stable};
+ghost use Rattle.stable.specs.Applied.{applies as appliesIn, positiveIn, positiveProgramIn};
+ghost use Rattle.stable.specs.Tested.{passes, ReducedBy};
+
+// What the test of a set answers: it is stable; or it is not, with the number of a rule to ask first of the next set.
+pub enum Tested {
+    Stable,
+    Unstable(usize),
+}
+
+// What reducing by a set answers: the set is a model, and so many rules are written; or a rule, by number, is not satisfied in it.
+pub enum Reduced {
+    Model(usize),
+    Fails(usize),
+}
 
 // Do all body literals of rule j hold in i?
 fn applies(program: &[u16], j: usize, i: u16) -> bool
@@ -33,41 +45,41 @@ fn satisfied(program: &[u16], j: usize, i: u16) -> bool
     !body | head
 }
 
-// Is i a model of the program?
-fn model(program: &[u16], rules: usize, i: u16) -> bool
+// Is j the number of one of so many rules, and that rule not satisfied in i?
+fn fails(program: &[u16], rules: usize, j: usize, i: u16) -> bool
     requires { ⌜ 4 * rules ≤ length (now program) ⌝ }
-    ensures { λ r. ⌜ r ≡ isModel (programIn (now (program .entry)) rules) i ⌝ }
+    ensures { λ r. ⌜ r ≡ ltb j rules && not (satisfies i (ruleIn (now (program .entry)) j)) ⌝ }
 {
-    let mut j = 0;
-    while j < rules {
-        if !satisfied(program, j, i) {
-            return false;
-        }
-        j += 1;
+    if j < rules {
+        return !satisfied(program, j, i);
     }
-    true
+    false
 }
 
-// Writes the rules whose bodies hold in i, by their heads and plain atoms, two words a rule, and says how many they are.
-fn reduce(program: &[u16], rules: usize, i: u16, out: &mut [u16]) -> usize
+// Writes the rules whose bodies hold in i, by their heads and plain atoms, two words a rule, and says how many they are. The first of
+// them whose head doesn't meet i ends it: i is no model.
+fn reduce(program: &[u16], rules: usize, i: u16, out: &mut [u16]) -> Reduced
     requires { ⌜ (4 * rules ≤ length (now program)) × (2 * rules ≤ length (now out)) ⌝ }
     ensures { λ r. ⌜ length (now (out .exit)) ≡ length (now (out .entry)) ⌝ }
-    ensures { λ r. ⌜ r ≤ rules ⌝ }
-    ensures { λ r. ⌜ positiveProgramIn (now (out .exit)) r ≡ applied i (programIn (now (program .entry)) rules) ⌝ }
+    ensures { λ r. ⌜ ReducedBy (now (program .entry)) rules i (now (out .exit)) r ⌝ }
 {
     let mut n = 0;
     let mut j = 0;
     while j < rules {
         if applies(program, j, i) {
             let from = 4 * j;
+            let head = program[from];
+            if !meets(head, i) {
+                return Reduced::Fails(j);
+            }
             let to = 2 * n;
-            out[to] = program[from];
+            out[to] = head;
             out[to + 1] = program[from + 1];
             n += 1;
         }
         j += 1;
     }
-    n
+    Reduced::Model(n)
 }
 
 // Is rule j, of a head and plain atoms, satisfied in i?
@@ -81,8 +93,8 @@ fn positive_satisfied(positive: &[u16], j: usize, i: u16) -> bool
     !plain | head
 }
 
-// Is j the number of a rule, of so many of heads and plain atoms, and that rule not satisfied in i?
-fn fails(positive: &[u16], rules: usize, j: usize, i: u16) -> bool
+// Is j the number of one of so many rules of heads and plain atoms, and that rule not satisfied in i?
+fn positive_fails(positive: &[u16], rules: usize, j: usize, i: u16) -> bool
     requires { ⌜ 2 * rules ≤ length (now positive) ⌝ }
     ensures { λ r. ⌜ r ≡ ltb j rules && not (satisfies i (positiveIn (now (positive .entry)) j)) ⌝ }
 {
@@ -103,7 +115,7 @@ fn smaller_model(positive: &[u16], rules: usize, i: u16) -> bool
     let mut s = i;
     'subsets: while s > 0 {
         s = (s - 1) & i;
-        if fails(positive, rules, last, s) {
+        if positive_fails(positive, rules, last, s) {
             continue 'subsets;
         }
         let mut j = 0;
@@ -122,15 +134,23 @@ fn smaller_model(positive: &[u16], rules: usize, i: u16) -> bool
     found
 }
 
-// Is i a stable set of the program? A set that is no model costs one pass over the rules at most.
-pub fn stable(program: &[u16], rules: usize, i: u16) -> bool
-    requires { ⌜ (4 * rules ≤ length (now program)) × (rules ≤ mostRules) ⌝ }
-    ensures { λ r. ⌜ r ≡ isStable (programIn (now (program .entry)) rules) i ⌝ }
+// Is i a stable set of the program? The rule `first` is asked before the others. The words lent are room for the rules whose bodies hold
+// in i.
+pub fn test_set(program: &[u16], rules: usize, i: u16, first: usize, room: &mut [u16]) -> Tested
+    requires { ⌜ (4 * rules ≤ length (now program)) × (2 * rules ≤ length (now room)) ⌝ }
+    ensures { λ r. ⌜ length (now (room .exit)) ≡ length (now (room .entry)) ⌝ }
+    ensures { λ r. ⌜ passes r ≡ stable (programIn (now (program .entry)) rules) i ⌝ }
 {
-    if model(program, rules, i) {
-        let mut positive = [0u16; 128];
-        let n = reduce(program, rules, i, &mut positive[..]);
-        return !smaller_model(&positive[..], n, i);
+    if fails(program, rules, first, i) {
+        return Tested::Unstable(first);
     }
-    false
+    match reduce(program, rules, i, &mut room[..]) {
+        Reduced::Model(n) => {
+            if smaller_model(&room[..], n, i) {
+                return Tested::Unstable(first);
+            }
+            Tested::Stable
+        }
+        Reduced::Fails(j) => Tested::Unstable(j),
+    }
 }

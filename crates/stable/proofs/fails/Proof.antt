@@ -6,14 +6,14 @@ use borrow.Author.Tests.{lt-ltb, le-ltb}
 use Rattle.stable.proofs.fails.Statement.{statement}
 use Rattle.stable.proofs.fails.Tie as tie
 
-positive-satisfied-requires : tie.Need-positive-satisfied-requires
-positive-satisfied-requires c κs = search needs
+satisfied-requires : tie.Need-satisfied-requires
+satisfied-requires c κs = search needs
 
 returns : tie.Need-returns
-returns c = rw (lt-ltb _ _ (c .before .if1 .taken)) (ap not (c .positive-satisfied .ensures))
+returns c = rw (lt-ltb _ _ (c .before .if1 .taken)) (ap not (c .satisfied .ensures))
 
 returns-2 : tie.Need-returns-2
 returns-2 c = rw (le-ltb _ _ (c .if1 .left))
 
 pub fails-spec : {M : Type 1} → statement M
-fails-spec = tie.close (tie.spec positive-satisfied-requires returns returns-2)
+fails-spec = tie.close (tie.spec satisfied-requires returns returns-2)

@@ -2,30 +2,20 @@
 -- rules has passed only rules that hold in the subset. Assumes nothing.
 use Prim.Native.Nat.{ℕ, _-_, _≤_, _<_}
 use mathlib.Core.Path.{_≡_, refl, sym, _∙_}
-use mathlib.Core.Bool.{Bool, true, false, not, _&&_, true≢false}
+use mathlib.Core.Bool.{true, false}
 use native.Mathlib.Omega.{arith}
 use borrow.Author.Count.{below-none, below-more}
-use borrow.Author.Tests.{not-true, not-false, ltb-true}
-use lib.Dec.{ltb}
+use borrow.Author.Tests.{not-true, not-false}
 use Rattle.sets.specs.Decides.{is-true}
 use Rattle.sets.specs.Members.{next-less}
 use Rattle.semantics.specs.Definitions.Stable.{satisfies}
 use Rattle.semantics.specs.Theorems.Stable.{dec-model}
 use Rattle.stable.specs.Applied.{positiveIn, positiveProgramIn}
-use Rattle.stable.proofs.Written.{dec-positive, no-model}
+use Rattle.stable.proofs.Written.{failed, dec-positive, no-model}
 use Rattle.stable.proofs.Tried.{Tried, tried-first, tried-next, tried-all, found}
 use borrow.Author.Needs.{needs}
 use Rattle.stable.proofs.smaller_model.Statement.{statement}
 use Rattle.stable.proofs.smaller_model.Tie as tie
-
--- what the answer of `fails` says
-failed : (j n : ℕ) {b : Bool} → ltb j n && not b ≡ true → (j < n) × (b ≡ false)
-failed j n {b} e = go (ltb j n) b refl e
-  where
-    go : (a b : Bool) → ltb j n ≡ a → a && not b ≡ true → (j < n) × (b ≡ false)
-    go true true d z = absurd (true≢false (sym z))
-    go true false d z = (ltb-true j n d, refl)
-    go false b d z = absurd (true≢false (sym z))
 
 abbrev Inv-rules : tie.InvT-rules
 Inv-rules positive rules i found₀ last₀ s j₀ found last j = (found ≡ false) × (j ≤ rules) × ((k : ℕ) → k < j → satisfies s (positiveIn positive k) ≡ true)
@@ -45,8 +35,8 @@ subsets-holds c = let a = c .before .args in (refl, tried-first (positiveProgram
 sub-s : tie.Need-sub-s Inv-rules μ-rules Inv-subsets μ-subsets
 sub-s c = search needs
 
-fails-requires : tie.Need-fails-requires Inv-rules μ-rules Inv-subsets μ-subsets
-fails-requires c κs = search needs
+positive-fails-requires : tie.Need-positive-fails-requires Inv-rules μ-rules Inv-subsets μ-subsets
+positive-fails-requires c κs = search needs
 
 subsets-less : tie.Need-subsets-less Inv-rules μ-rules Inv-subsets μ-subsets
 subsets-less c = next-less (c .before .before .before .subsets .s) (c .before .before .before .before .before .args .i) (omega arith)
@@ -55,7 +45,7 @@ subsets-again : tie.Need-subsets-again Inv-rules μ-rules Inv-subsets μ-subsets
 subsets-again c =
     let l = c .before .before .before .subsets in
     let a = c .before .before .before .before .before .args in
-    let (there, fails) = failed (l .last) (a .rules) (sym (c .before .fails .ensures) ∙ c .if1 .taken) in
+    let (there, fails) = failed (l .last) (a .rules) (sym (c .before .positive-fails .ensures) ∙ c .if1 .taken) in
     (l .inv .0, tried-next (positiveProgramIn (a .positive .now) (a .rules)) (a .i) (l .inv .1) (no-model (a .positive .now) (a .rules) _ (l .last) there fails))
 
 rules-holds : tie.Need-rules-holds Inv-rules μ-rules Inv-subsets μ-subsets
@@ -110,7 +100,7 @@ smaller-model-spec =
     μ-subsets
     subsets-holds
     sub-s
-    fails-requires
+    positive-fails-requires
     subsets-less
     subsets-again
     rules-holds

@@ -9,6 +9,7 @@ use lib.ListN.{length, take, length-set}
 use Rattle.sets.specs.Lists.{keep, upTo}
 use Rattle.semantics.specs.Words.{programIn}
 use Rattle.semantics.specs.Definitions.Stable.{stable, stableSets}
+use Rattle.stable.specs.Tested.{passes}
 use Rattle.verdict.proofs.Walked.{kept, passed}
 use borrow.Author.Needs.{needs}
 use Rattle.verdict.proofs.walks.stable_sets.Statement.{statement}
@@ -19,11 +20,11 @@ unfolding upTo keep
 nothing f = refl
 
 abbrev Inv-loop : tie.InvT-loop
-Inv-loop program rules atoms out₀ end n₀ i₀ out n i =
-    (i ≤ end) × (n ≤ i) × (length out ≡ length out₀) × (take n out ≡ keep (stable (programIn program rules)) (upTo i))
+Inv-loop program rules atoms out₀ end room₀ first₀ n₀ i₀ out room first n i =
+    (i ≤ end) × (n ≤ i) × (length out ≡ length out₀) × (take n out ≡ keep (stable (programIn program rules)) (upTo i)) × (length room ≡ 128)
 
 abbrev μ-loop : tie.MeasureT-loop
-μ-loop program rules atoms out₀ end n₀ i₀ out n i = end - i
+μ-loop program rules atoms out₀ end room₀ first₀ n₀ i₀ out room first n i = end - i
 
 cast-power : tie.Need-cast-power Inv-loop μ-loop
 cast-power c = search needs
@@ -32,10 +33,16 @@ power-requires : tie.Need-power-requires Inv-loop μ-loop
 power-requires c κs = search needs
 
 loop-holds : tie.Need-loop-holds Inv-loop μ-loop
-loop-holds c = (omega arith, omega arith, refl, nothing _)
+loop-holds c = (omega arith, omega arith, refl, nothing _, search needs)
 
-stable-requires : tie.Need-stable-requires Inv-loop μ-loop
-stable-requires c κs = search needs
+slice-aggregate-test-set : tie.Need-slice-aggregate-test-set Inv-loop μ-loop
+slice-aggregate-test-set c = search needs
+
+test-set-requires : tie.Need-test-set-requires Inv-loop μ-loop
+test-set-requires c κs = search needs
+
+enum-told : tie.Need-enum-told Inv-loop μ-loop
+enum-told c = search needs
 
 mul-out : tie.Need-mul-out Inv-loop μ-loop
 mul-out c = search needs
@@ -46,6 +53,9 @@ slice-write-out c = search needs
 add-n : tie.Need-add-n Inv-loop μ-loop
 add-n c = search needs
 
+enum-known-rule : tie.Need-enum-known-rule Inv-loop μ-loop
+enum-known-rule c = search needs
+
 add-i : tie.Need-add-i Inv-loop μ-loop
 add-i c = search needs
 
@@ -54,23 +64,28 @@ loop-less c = search needs
 
 loop-again : tie.Need-loop-again Inv-loop μ-loop
 loop-again c =
-    let l = c .before .before .before .loop in
-    let a = c .before .before .before .before .before .before .before .args in
-    let answer = c .before .stable .ensures in
+    let x = c .before .before .before .before .before in
+    let l = x .loop in
+    let a = x .before .before .before .before .args in
+    let t = c .before .before .test-set in
+    let f = stable (programIn (a .program .now) (a .rules)) in
+    let room = t .ensures .0 ∙ l .inv .4 in
     ⊎-elim
     (λ w. (
       omega arith,
       omega arith,
-      ap length (w .1) ∙ simp length-set (l .inv .2),
-      ap₂ take (w .2) (w .1) ∙ kept (stable (programIn (a .program .now) (a .rules))) (l .out) (l .n) (l .i) (l .inv .3) (omega arith) (sym answer ∙ w .0 .taken),
+      ap length (w .2) ∙ simp length-set (l .inv .2),
+      ap₂ take (w .4) (w .2) ∙ kept f (l .out) (l .n) (l .i) (l .inv .3) (omega arith) (sym (t .ensures .1) ∙ ap passes (w .1 .given .1)),
+      room,
     ))
     (λ w. (
       omega arith,
       omega arith,
-      ap length (w .1) ∙ l .inv .2,
-      ap₂ take (w .2) (w .1) ∙ passed (stable (programIn (a .program .now) (a .rules))) (l .out) (l .n) (l .i) (l .inv .3) (sym answer ∙ w .0 .left),
+      ap length (w .3) ∙ l .inv .2,
+      ap₂ take (w .5) (w .3) ∙ passed f (l .out) (l .n) (l .i) (l .inv .3) (sym (t .ensures .1) ∙ ap passes (w .1 .given .1)),
+      room,
     ))
-    (c .if1 .came)
+    (c .match .came)
 
 same-length : tie.Need-same-length Inv-loop μ-loop
 same-length c = search needs
@@ -92,10 +107,13 @@ stable-sets-spec =
     cast-power
     power-requires
     loop-holds
-    stable-requires
+    slice-aggregate-test-set
+    test-set-requires
+    enum-told
     mul-out
     slice-write-out
     add-n
+    enum-known-rule
     add-i
     loop-less
     loop-again
