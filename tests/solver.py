@@ -412,38 +412,43 @@ def listing(data):
     return tuple(len(named) for named in (views, covered, ruled, tested, empty, other)), records
 
 
-# The calls, on any sheet and guess.
+# The calls, on any sheet and guess: [refusal, place], or [0] and the values; and a lent buffer after the call.
+
+VERDICTS = ("empty", "other", "verified")  # by their numbers in an answer
+
 
 def refusal(data, guess=0):
     """Refusals 1 to 8, or None. Guess 0 is in range on every sheet."""
     numbers = answer(data)
     if numbers[0] != 0:
-        return ("refused", *numbers)
-    return None if guess < guess_count(data) else ("refused", 8, 0)
+        return numbers
+    return None if guess < guess_count(data) else [8, 0]
 
 
 def verdict_call(data, guess):
-    return refusal(data, guess) or verdict(data, guess)
+    refused = refusal(data, guess)
+    if refused:
+        return refused
+    name, *numbers = verdict(data, guess)
+    return [0, VERDICTS.index(name), *numbers]
 
 
 def belief_sets_call(data, guess, buffer):
-    """The call's answer and the buffer after it."""
     refused = refusal(data, guess)
     if refused:
         return refused, buffer
     sets = belief_set_numbers(data, guess)
     if len(sets) > len(buffer):
-        return ("refused", 9, len(sets)), buffer
-    return (len(sets),), sets + buffer[len(sets):]
+        return [9, len(sets)], buffer
+    return [0, len(sets)], sets + buffer[len(sets):]
 
 
 def list_call(data, buffer):
-    """The call's answer and the buffer after it."""
     refused = refusal(data)
     if refused:
         return refused, buffer
     tally, records = listing(data)
     if 4 * len(records) > len(buffer):
-        return ("refused", 9, len(records)), buffer
+        return [9, len(records)], buffer
     words = [word for record in records for word in record]
-    return tally, words + buffer[len(words):]
+    return [0, *tally], words + buffer[len(words):]

@@ -1,37 +1,26 @@
-#!/usr/bin/env python3
-"""Cases of the call `list`: makes crates/listings/stdin and stdout.
-
-A case has a title, a sheet and one field (files.py): the number of words of the lent
-buffer. A line of the expected output: TITLE, WORDS words: ANSWER; BUFFER.
-
-ANSWER is the six counts, views, covered, ruled, tested, empty and other, or `refused
-NUMBER PLACE`. BUFFER is the lent buffer after the call (buffers.py).
+"""Cases of the call `list`.
 
 The answers are those of solver.py. Lists that document 01 states, lists of a separate
 brute-force program (docs/DECISIONS.md, "Known lists"), and lists and counts found by hand
-are asserted. With --check the files are only compared.
+are asserted.
 """
 
 from itertools import combinations
 from math import comb
 
-from buffers import before_call, shown
-from files import case_bytes, write_or_compare
 from known import KILN, KILN_TALLY, KILN_VIEWS, KNOWN
 from reader import answer
+from request import LIST, case_of, held_before, line
 from sheets import (BAD, DISJUNCTION_OF_TEN, FIVE_DISJUNCTIONS, GOOD, HEAD, K, LONGEST, M, MANY_RULES, NOTHING, NOT_K,
                     NOT_M, SIX, TWELVE, TWELVE_M, Random, choices, letters, make, random_sheet, rule, sheet)
 from solver import guess_count, least_closed, list_call, listing, members, negations, opened, reduct, verdict
-
-MOST_WORDS = 17000  # of the program's buffer
 
 CASES = []
 
 
 def case(title, data, *lengths):
     """The sheet with buffers of so many words."""
-    for words in lengths:
-        CASES.append((f"{title}, {words} words", data, words))
+    CASES.extend((title, data, words) for words in lengths)
 
 
 def filled(data):
@@ -69,9 +58,9 @@ for number, (data, views, tally) in KNOWN.items():
     all_lengths(f"known sheet {number}", data)
 assert listing(KILN) == (KILN_TALLY, KILN_VIEWS)
 all_lengths("kiln", KILN)
-case("two views", KNOWN[6][0], *range(11), 49, 1001, 17000)
-case("no view", KNOWN[3][0], 1, 2, 3, 4, 48, 49, 17000)
-case("no negations, no view", KNOWN[9][0], 1, 2, 3, 4, 17000)
+case("two views", KNOWN[6][0], *range(11), 101)
+case("no view", KNOWN[3][0], 1, 2, 3, 4, 101)
+case("no negations, no view", KNOWN[9][0], 1, 2, 3, 4, 101)
 
 # The sheets of crates/semantics/specs/Examples/Own.antt, with the lists of the brute-force program.
 OWN = [
@@ -200,7 +189,7 @@ TWELVE_ATOMS = letters(12)
 
 # A guess with some "not K a" has a in T. Guess 0 is tested: its W is empty.
 case("12 atoms, each from not K of itself",
-     counted(each_of(TWELVE_ATOMS, "x <- not K x"), 0, 0, 4095, 1, 1, 0), 0, 17000)
+     counted(each_of(TWELVE_ATOMS, "x <- not K x"), 0, 0, 4095, 1, 1, 0), 0, 101)
 case("every guess ruled by an empty rule",
      counted(sheet("a b c d e f", "<-", *(f"{x} <- K {x}, M {x}" for x in "abcdef")), 0, 0, 4096, 0, 0, 0), 0, 9)
 case("every guess ruled by a fact and a constraint",
@@ -277,7 +266,7 @@ def at_most_tally(groups):
 
 THREES = (("abcdef", 3), ("ghijkl", 3))
 edges("at most 3 of six, twice", counted(at_most(THREES), *at_most_tally(THREES)))
-longer("at most 3 of six, twice", at_most(THREES), 15000)
+longer("at most 3 of six, twice", at_most(THREES), 300)
 MIXED = (("acegikl", 3), ("bdfhj", 2))
 longer("at most 3 of seven and 2 of five", counted(at_most(MIXED), *at_most_tally(MIXED)), 200)
 
@@ -403,23 +392,17 @@ for turn, (number, data) in enumerate(BAD):
     assert answer(data)[0] == number, turn
     case(f"bad sheet {turn}, refusal {number}", data, 0, 5)
 for number, data in (BAD[0], BAD[6], BAD[10], BAD[13], BAD[15]):
-    case(f"bad sheet of {len(data)} bytes, refusal {number}", data, 1, 17000)
+    case(f"bad sheet of {len(data)} bytes, refusal {number}", data, 1, 101)
 case("7 before 9", make(letters(13), [rule({HEAD: 2 ** i, K: 2 ** i}) for i in range(13)]), 0, 3)
 case("7 before 9, 14 negations",
      make(letters(7), [rule({HEAD: 2 ** i, K: 2 ** i, M: 2 ** i}) for i in range(7)]), 0, 300)
 case("a good sheet", GOOD, *range(7))
 
 
-def line(title, data, words):
-    numbers, buffer = list_call(data, before_call(words))
-    return f"{title}: " + " ".join(str(number) for number in numbers) + "; " + shown(buffer) + "\n"
-
-
 def made():
-    """The bytes of each case and its line of output."""
-    assert all(words <= MOST_WORDS for _, _, words in CASES)
-    return [(case_bytes(*one), line(*one)) for one in CASES]
-
-
-if __name__ == "__main__":
-    write_or_compare("listings", made)
+    cases = []
+    for title, data, words in CASES:
+        word = held_before(words)
+        numbers, after = list_call(data, [word] * words)
+        cases.append(case_of(title, line(LIST, numbers, after), LIST, data, 0, words, word))
+    return cases

@@ -1,18 +1,13 @@
-#!/usr/bin/env python3
-"""Limit cases of the sheet check: makes crates/limits/stdin and crates/limits/stdout.
+"""Limit cases of the sheet check.
 
-A case has a title and a sheet (files.py). A line of the expected output: the
-title, a colon, and the answer's numbers, each after a space.
-
-Each expected answer below is written by hand from document 01. The function
-`answer` of reader.py reads sheets by the same document; where the two differ,
-nothing is written. With --check the files are only compared.
+Each expected answer is written by hand from document 01. The function `answer` of
+reader.py reads sheets by the same document, and must not differ.
 """
 
 import sys
 
-from files import case_bytes, write_or_compare
 from reader import answer
+from request import CHECK, MOST_SHEET, case_of, line
 from sheets import ALPHABET, FULL, K, LONG, LONGEST, M, NOTHING, NOT_K, NOT_M, cut, letters, make, put, rule
 
 # Lengths at 1 and 4, rule count at 8, rules at 9 and 25, 41 bytes.
@@ -39,7 +34,7 @@ case("16 atoms", make(letters(16)), 2, 0)
 case("255 atoms", make([a + b for a in ALPHABET for b in ALPHABET][:255]), 2, 0)
 case("64 rules", make([], [NOTHING] * 64), 0, 0, 64, 0)
 case("65 rules", make([], [NOTHING] * 65), 2, 1)
-case("255 rules", make([], [NOTHING] * 255), 2, 1)
+case("255 rules, the last ones cut off", cut(make([], [NOTHING] * 255), MOST_SHEET), 2, 1)
 case("64 rules after 15 names", make(letters(15), [NOTHING] * 64), 0, 15, 64, 0)
 case("65 rules after 15 names", make(letters(15), [NOTHING] * 65), 2, 31)
 case("rule count 255 after 1 name", put(make(["a"]), 3, 255), 2, 3)
@@ -192,14 +187,8 @@ case("16 atoms and bad names", make(["", "A", "A"] + [""] * 13), 2, 0)
 
 
 def made():
-    """The bytes of each case and its line of output."""
     wrong = [f"{title}: by hand {numbers}, read {answer(sheet)}"
              for title, sheet, numbers in CASES if answer(sheet) != numbers]
     if wrong:
         sys.exit("\n".join(wrong))
-    return [(case_bytes(title, sheet), f"{title}:" + "".join(f" {n}" for n in numbers) + "\n")
-            for title, sheet, numbers in CASES]
-
-
-if __name__ == "__main__":
-    write_or_compare("limits", made)
+    return [case_of(title, line(CHECK, numbers), CHECK, sheet) for title, sheet, numbers in CASES]

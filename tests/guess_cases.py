@@ -1,35 +1,23 @@
-#!/usr/bin/env python3
-"""Cases of the calls `verdict` and `belief_sets`: makes crates/verdicts/stdin and stdout.
-
-A case has a title, a sheet and three fields (files.py): the first guess, the number
-of guesses, and the number of words of the lent buffer. For each guess in turn a line
-of the expected output: TITLE GUESS: VERDICT; COUNT; BUFFER.
-
-VERDICT is `empty`, `other FOUND`, `verified KNOWN POSSIBLE SETS` or `refused NUMBER
-PLACE`; COUNT is the number of belief sets, or `refused NUMBER PLACE`. BUFFER is the
-lent buffer after the call (buffers.py).
+"""Cases of the calls `verdict` and `belief_sets`.
 
 The answers are those of solver.py. Numbers that document 01 states are asserted.
-With --check the files are only compared.
 """
 
 from itertools import combinations, groupby
 
-from buffers import before_call, shown
-from files import case_bytes, write_or_compare
 from known import KILN, KILN_VIEWS, KNOWN
 from reader import answer
+from request import BELIEF_SETS, VERDICT, case_of, held_before, line
 from sheets import (BAD, DISJUNCTION_OF_TEN, FIVE_DISJUNCTIONS, GOOD, LONGEST, MANY_RULES, NOTHING, SIX, TWELVE,
                     TWELVE_M, Random, choices, letters, make, random_sheet, sheet)
 from solver import (DELETED, REDUCT, REMOVED, belief_set_numbers, belief_sets, belief_sets_call, guess_count, members,
                     negations, opened, reduct, stable_by_parts, verdict, verdict_by, verdict_call)
 
-MOST_WORDS = 32770  # of the program's buffer
-
 CASES = []
 
 
 def case(title, data, first, count, words):
+    """Both calls for so many guesses from the first one on, `belief_sets` with a buffer of so many words."""
     CASES.append((title, data, first, count, words))
 
 
@@ -44,13 +32,13 @@ def exactly(title, data, first, count):
     """These guesses with as many words as sets, and with one word less where there is a set."""
     for size, run in groupby(range(first, first + count), lambda guess: len(belief_sets(data, guess))):
         run = list(run)
-        case(f"{title}, {size} words", data, run[0], len(run), size)
+        case(title, data, run[0], len(run), size)
         if size > 0:
-            case(f"{title}, one word short", data, run[0], len(run), size - 1)
+            case(title, data, run[0], len(run), size - 1)
 
 
 def both(title, data):
-    """The lines of `every`, and those of `exactly` for every guess."""
+    """The cases of `every`, and those of `exactly` for every guess."""
     every(title, data)
     exactly(title, data, 0, guess_count(data))
 
@@ -160,26 +148,23 @@ every("a in the head, K a in the body", sheet("a b", "a | b <- K a, not b", "b <
 FOUR_SETS = sheet("a b c", "a <- not not a", "b | c", "<- K c")  # at guess 1
 FIVE = sheet("a b c d e", *choices("abcde"))
 FIVE_CONSTRAINED = sheet("a b c d e", *choices("abcde"), "<- not d, not e")
-for words in (0, 1, 3, 4, 5, 23, 24, 25, 1001, 32770):
-    case(f"buffer of {words}", FOUR_SETS, 0, 3, words)
-for words in (0, 1, 25, 32770):
-    case(f"no sets, buffer of {words}", sheet("a", "a <- not K a", "<- a"), 0, 3, words)
-    case(f"one set, buffer of {words}", sheet("a b", "b", "a <- K a"), 0, 3, words)
-case("32 sets in 32 words", FIVE, 0, 1, 32)
-case("32 sets in 31 words", FIVE, 0, 1, 31)
-case("24 sets in 24 words", FIVE_CONSTRAINED, 0, 1, 24)
-case("24 sets in 23 words", FIVE_CONSTRAINED, 0, 1, 23)
+for words in (0, 1, 3, 4, 5, 25, 101):
+    case("four sets", FOUR_SETS, 0, 3, words)
+for words in (0, 1, 25, 101):
+    case("no sets", sheet("a", "a <- not K a", "<- a"), 0, 3, words)
+    case("one set", sheet("a b", "b", "a <- K a"), 0, 3, words)
+for words in (31, 32):
+    case("32 sets", FIVE, 0, 1, words)
+for words in (23, 24):
+    case("24 sets", FIVE_CONSTRAINED, 0, 1, words)
 
 # Choices: every set of atoms is stable.
-CHOICES = {n: sheet(" ".join(letters(n)), *choices(letters(n))) for n in (8, 14, 15)}
-for n, data in CHOICES.items():
-    assert belief_set_numbers(data, 0) == list(range(2 ** n))
-for words in (255, 256, 257):
-    case(f"8 choices, {words} words", CHOICES[8], 0, 1, words)
-case("14 choices, 16385 words", CHOICES[14], 0, 1, 16385)
-for words in (32767, 32768, 32769):
-    case(f"15 choices, {words} words", CHOICES[15], 0, 1, words)
-case("15 choices, guess out of range, one word short", CHOICES[15], 1, 1, 32767)
+for atoms, lengths in ((8, (255, 256, 257)), (10, (1025,)), (14, (255,)), (15, (32767, 32768))):
+    data = sheet(" ".join(letters(atoms)), *choices(letters(atoms)))
+    assert belief_set_numbers(data, 0) == list(range(2 ** atoms))
+    for words in lengths:
+        case(f"{atoms} choices", data, 0, 1, words)
+    case(f"{atoms} choices, guess out of range, too few words", data, 1, 1, 255)
 
 # Limits of atoms, negations and rules.
 ATOMS = letters(15)
@@ -258,8 +243,8 @@ for turn, (number, data) in enumerate(BAD):
     case(f"bad sheet {turn}, refusal {number}", data, 0, 2, 3)
     case(f"bad sheet {turn}, guess out of range, one word", data, 65535, 1, 1)
     case(f"bad sheet {turn}, guess out of range, empty buffer", data, 4096, 1, 0)
-case("bad sheet, long buffer", LONGEST + bytes([255]), 0, 1, 32770)
-case("guess out of range, long buffer", GOOD, 2, 1, 32770)
+case("bad sheet, long buffer", LONGEST + bytes([255]), 0, 1, 101)
+case("guess out of range, long buffer", GOOD, 2, 1, 101)
 for title, data, words in (("no negations", sheet("a b", "a | b"), 2), ("one negation", GOOD, 2),
                            ("four sets", FOUR_SETS, 4), ("empty W", sheet("a", "<- M a", "a"), 0)):
     limit = guess_count(data)
@@ -286,21 +271,19 @@ def unnoticed():
             if wrong != right and not any(differs(data, {**REDUCT, cell: wrong}) for data in small)]
 
 
-# Lines of output.
+# The requests and their lines.
 
-def lines(title, data, first, count, words):
-    for guess in range(first, first + count):
-        counted, buffer = belief_sets_call(data, guess, before_call(words))
-        fields = (" ".join(str(field) for field in part) for part in (verdict_call(data, guess), counted))
-        yield f"{title} {guess}: " + "; ".join([*fields, shown(buffer)]) + "\n"
+def verdict_case(title, data, guess):
+    return case_of(title, line(VERDICT, verdict_call(data, guess)), VERDICT, data, guess)
+
+
+def belief_sets_case(title, data, guess, words):
+    word = held_before(words)
+    numbers, after = belief_sets_call(data, guess, [word] * words)
+    return case_of(title, line(BELIEF_SETS, numbers, after), BELIEF_SETS, data, guess, words, word)
 
 
 def made():
-    """The bytes of each case and its lines of output."""
     assert not unnoticed(), unnoticed()
-    assert all(words <= MOST_WORDS and count > 0 and first + count <= 65536 for _, _, first, count, words in CASES)
-    return [(case_bytes(*one), "".join(lines(*one))) for one in CASES]
-
-
-if __name__ == "__main__":
-    write_or_compare("verdicts", made)
+    return [one for title, data, first, count, words in CASES for guess in range(first, first + count)
+            for one in (verdict_case(title, data, guess), belief_sets_case(title, data, guess, words))]
