@@ -1,11 +1,14 @@
 // A sheet, opened: whether it is accepted, what it says, and its rules by number.
 mod fields;
 mod names;
+mod opened_sheet;
 mod rules;
 mod sections;
 mod steps;
 
 use fields::word;
+use opened_sheet::opened_at;
+use opened_sheet::rule_of;
 use sections::sections as read_sections;
 use sets::size;
 use steps::Field;
@@ -15,7 +18,7 @@ ghost use lib.ListN.{length};
 ghost use Rattle.semantics.specs.Definitions.Sheet.{wordAt};
 ghost use Rattle.semantics.specs.Definitions.Check.{opened};
 ghost use Rattle.sheet.specs.Opened.{openedOf};
-ghost use Rattle.sheet.specs.Fetched.{fetched};
+ghost use Rattle.sheet.specs.Fetched.{RulesBegin, RuleByNumber};
 
 // What is kept of an accepted sheet.
 pub struct Contents {
@@ -65,18 +68,12 @@ pub fn open(s: &[u8]) -> Opened
     }
 }
 
-// The rule of a number, of a sheet whose rules begin at a place (of an accepted sheet: `fetched-rule`, `fetched-none`).
+// The rule of a number of an accepted sheet, whose rules begin at a place: fetched from the opened sheet.
 pub fn fetch(s: &[u8], rules_at: usize, number: usize) -> Fetched
-    ensures { λ r. ⌜ r ≡ fetched (now (s .entry)) «rules_at» number ⌝ }
+    requires { ⌜ RulesBegin (now s) «rules_at» ⌝ }
+    ensures { λ r. ⌜ RuleByNumber (now (s .entry)) number r ⌝ }
 {
-    if rules_at <= s.len() {
-        if number < (s.len() - rules_at) / 16 {
-            return Fetched::Rule {
-                place: rules_at + 16 * number,
-            };
-        }
-    }
-    Fetched::NoRule
+    rule_of(opened_at(s, rules_at), number)
 }
 
 // Mask i of the rule at a place.

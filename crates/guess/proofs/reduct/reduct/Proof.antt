@@ -6,7 +6,7 @@ use native.Mathlib.Omega.{arith}
 use Prim.Native.Nat.{_-_, _≤_, _<_}
 use Rattle.semantics.specs.Definitions.Sheet.{mostRules}
 use Rattle.sheet.specs.declared.Fetched.the-variants.{Rule}
-use Rattle.sheet.specs.Fetched.{ruleCount, fetched, fetched-place, fetched-all}
+use Rattle.sheet.specs.Fetched.{ruleCount, fetched, fetched-place, fetched-all, rules-begin, by-bytes}
 use Rattle.guess.specs.Accepted.{few-opened}
 use Rattle.guess.proofs.Kept.{Written, none-written, one-fetched, few-rules, all-written}
 use borrow.Author.Needs.{needs}
@@ -33,7 +33,18 @@ loop-holds c =
     )
 
 fetch-requires : tie.Need-fetch-requires Inv-loop μ-loop
-fetch-requires c κs = search needs
+fetch-requires c κs =
+    let start = c .before .before .before .before in
+    rules-begin (start .args .s .now) (start .pre .0)
+
+-- the answer of `fetch`, by the bytes
+by-fetch : (c : tie.After-fetch Inv-loop μ-loop) →
+    let a = c .before .before .before .before .before .args in
+    c .fetch .result ≡ fetched (a .s .now) (a .x .«rules_at») (c .before .loop .number)
+by-fetch c =
+    let start = c .before .before .before .before .before in
+    let a = start .args in
+    by-bytes (a .s .now) (a .x .«rules_at») (c .before .loop .number) (rules-begin (a .s .now) (start .pre .0)) (c .fetch .ensures)
 
 enum-known-fetched : tie.Need-enum-known-fetched Inv-loop μ-loop
 enum-known-fetched c = search needs
@@ -52,7 +63,7 @@ returns c =
     let from = a .x .«rules_at» in
     let by = c .before .before .before .before .assumed .ensures in
     let w = subst (λ b. Written (b .unknown) (b .maybe) (a .s .now) from (l .out) (l .n) (l .number)) by (l .inv .2) in
-    let all = fetched-all (a .s .now) from (l .number) (sym (c .before .before .fetch .ensures) ∙ c .enum-told .given .1) in
+    let all = fetched-all (a .s .now) from (l .number) (sym (by-fetch (c .before .before)) ∙ c .enum-told .given .1) in
     let reduct = all-written (a .s .now) (a .x) (start .pre .0) (a .guess) (l .out) (l .n) (l .number) w all in
     (l .inv .0, (omega (arith, w .few, w .fetched, l .inv .1), reduct))
 
@@ -61,7 +72,7 @@ module _ (c : tie.After-known-told Inv-loop μ-loop) where
   rule :
       let a = c .before .before .before .before .before .before .before .before .args in
       fetched (a .s .now) (a .x .«rules_at») (c .before .before .before .before .loop .number) ≡ Rule (c .before .fetched .given .0 .0)
-  rule = sym (c .before .before .before .fetch .ensures) ∙ c .before .fetched .given .1
+  rule = sym (by-fetch (c .before .before .before)) ∙ c .before .fetched .given .1
 
   few-fetched : c .before .before .before .before .loop .number < mostRules
   few-fetched =
