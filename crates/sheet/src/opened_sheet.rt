@@ -1,4 +1,4 @@
-// An opened sheet, and its rules by number. `fetch` of the crate's root makes one of the bytes that it takes; no other function has one.
+// An opened sheet, and its rules by number. `fetch` of the crate's root makes one of the bytes that it takes, and nothing else does.
 use super::Fetched;
 ghost use mathlib.Core.Path.{_≡_};
 ghost use Rattle.sheet.specs.Fetched.{fetched, RulesBegin, RuleByNumber};
