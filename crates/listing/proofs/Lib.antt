@@ -3,3 +3,4 @@ pub mod Placed
 pub mod Examined
 pub mod Steps
 pub mod Along
+pub mod Levels

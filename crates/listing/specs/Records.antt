@@ -1,9 +1,10 @@
 -- The views that stand as records in words, four each. Assumes nothing.
-use Prim.Native.Nat.{ℕ, _+_, _*_}
+use Prim.Native.Nat.{ℕ, _+_, _*_, _≤_, _<_}
 use mathlib.Core.Path.{_≡_, _∙_}
 use mathlib.Core.List.{List, map}
 use lib.ListN.{length, getD, length-map}
 use Rattle.sets.specs.Lists.{upTo, length-upTo}
+use Rattle.sets.specs.Sets.{size}
 use Rattle.semantics.specs.Definitions.Listing as meant
 use Rattle.listing.specs.declared.records.View.{View}
 
@@ -20,6 +21,10 @@ module _ (words : List ℕ) where
     possible = getD words (4 * j + 2) 0;
     sets = getD words (4 * j + 3) 0;
   }
+
+  -- of the first n records those with larger guesses come first
+  abbrev pub LargerFirst : (n : ℕ) → Type 0
+  LargerFirst n = (i j : ℕ) → i < j → j < n → size (getD words (4 * j) 0) ≤ size (getD words (4 * i) 0)
 
   -- the first n records
   unfoldable pub viewsIn : (n : ℕ) → List meant.View

@@ -3,7 +3,7 @@ pub mod atoms;
 pub mod outcomes;
 pub mod records;
 
-use order::guess_at;
+use order::guesses;
 use outcomes::Outcome;
 use outcomes::Tally;
 use outcomes::count;
@@ -19,7 +19,7 @@ ghost use Rattle.semantics.specs.Definitions.Sheet.{mostAtoms};
 ghost use Rattle.semantics.specs.Definitions.Check.{mostNegations, opened};
 ghost use Rattle.sheet.specs.declared.Opened.the-variants.{Accepted};
 ghost use Rattle.sheet.specs.Opened.{openedOf};
-ghost use Rattle.listing.specs.Records.{viewsIn};
+ghost use Rattle.listing.specs.Records.{viewsIn, LargerFirst};
 ghost use Rattle.semantics.specs.Theorems.Tally.{AtMost};
 ghost use Rattle.listing.specs.Outcomes.{tallyFrom};
 ghost use Rattle.listing.specs.Walks.{walkedIn, Advanced, ListingOf};
@@ -34,7 +34,7 @@ fn advance(
     room: &mut [u16],
 ) -> Tally
     requires { ⌜ (openedOf (opened (now s)) ≡ Accepted x) × (guess < 2 ^ x .negations) × (2 ^ mostAtoms ≤ length (now room)) ⌝ }
-    requires { ⌜ AtMost (tallyFrom tally) (2 ^ mostNegations) × (4 * tally .views + 4 ≤ length (now records)) ⌝ }
+    requires { ⌜ AtMost (tallyFrom tally) (2 ^ mostNegations) × (4 * tally .views + 4 ≤ length (now records)) × LargerFirst (now records) (tally .views) ⌝ }
     ensures { λ r. ⌜ length (now (records .exit)) ≡ length (now (records .entry)) ⌝ }
     ensures { λ r. ⌜ Advanced (now (s .entry)) guess (walkedIn tally (now (records .entry))) (walkedIn r (now (records .exit))) ⌝ }
 {
@@ -54,6 +54,7 @@ pub fn walk(s: &[u8], x: Contents, records: &mut [u16]) -> Tally
     ensures { λ r. ⌜ 4 * r .views ≤ length (now (records .entry)) ⌝ }
     ensures { λ r. ⌜ ListingOf (now (s .entry)) (tallyFrom r) (viewsIn (now (records .exit)) (r .views)) ⌝ }
 {
+    let order = guesses();
     let mut room = [0u16; 32768];
     let end = power(x.negations as u16);
     let mut tally = Tally {
@@ -66,7 +67,7 @@ pub fn walk(s: &[u8], x: Contents, records: &mut [u16]) -> Tally
     };
     let mut i = 0;
     while i < 4096 {
-        let guess = guess_at(i);
+        let guess = order[i];
         if guess < end {
             tally = advance(s, x, guess, tally, &mut records[..], &mut room[..]);
         }

@@ -1,5 +1,6 @@
 // Views as records in words, four each: guess, known, possible, number of sets.
-use sets::proper_subset;
+use sets::size;
+use sets::subset;
 ghost use mathlib.Core.Path.{_≡_};
 ghost use Prim.Native.Nat.{_+_, _*_, _≤_};
 ghost use lib.ListN.{length};
@@ -7,7 +8,7 @@ ghost use Rattle.sets.specs.Lists.{some};
 ghost use Rattle.sets.specs.Sets.{_⊂?_};
 ghost use Rattle.semantics.specs.Definitions.Returned.{written};
 ghost use Rattle.semantics.specs.Definitions.Listing.{recordOf, words};
-ghost use Rattle.listing.specs.Records.{viewFrom, viewIn, viewsIn};
+ghost use Rattle.listing.specs.Records.{viewFrom, viewIn, viewsIn, LargerFirst};
 
 // A world view: its guess, what is known and possible in it, and its number of belief sets.
 pub struct View {
@@ -55,14 +56,20 @@ pub fn write_records(records: &[u16], n: usize, out: &mut [u16])
     }
 }
 
-// Is the guess a proper subset of the guess of one of the first n records?
+// Is the guess a proper subset of the guess of one of the first n records? These stand level by level, the larger guesses first, and only a
+// larger one can cover it: its own level ends the search.
 pub fn covered_by(records: &[u16], n: usize, guess: u16) -> bool
-    requires { ⌜ 4 * n ≤ length (now records) ⌝ }
+    requires { ⌜ (4 * n ≤ length (now records)) × LargerFirst (now records) n ⌝ }
     ensures { λ r. ⌜ r ≡ some (λ v. guess ⊂? v .guess) (viewsIn (now (records .entry)) n) ⌝ }
 {
+    let level = size(guess);
     let mut j = 0;
     while j < n {
-        if proper_subset(guess, records[4 * j]) {
+        let other = records[4 * j];
+        if size(other) <= level {
+            return false;
+        }
+        if subset(guess, other) {
             return true;
         }
         j += 1;

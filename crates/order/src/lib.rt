@@ -1,7 +1,5 @@
 // The order of the guesses as a constant list.
 ghost use mathlib.Core.Path.{_≡_};
-ghost use Prim.Native.Nat.{_<_, _^_};
-ghost use lib.ListN.{getD};
 ghost use Rattle.semantics.specs.Definitions.Check.{mostNegations};
 ghost use Rattle.semantics.specs.Definitions.Order.{order};
 
@@ -4105,10 +4103,9 @@ const ORDER: [u16; 4096] = [
     0,
 ];
 
-// The guess at place i of the order.
-pub fn guess_at(i: usize) -> u16
-    requires { ⌜ i < 2 ^ mostNegations ⌝ }
-    ensures { λ r. ⌜ r ≡ getD (order mostNegations) i 0 ⌝ }
+// The whole list.
+pub fn guesses() -> [u16; 4096]
+    ensures { λ r. ⌜ r ≡ order mostNegations ⌝ }
 {
-    ORDER[i]
+    ORDER
 }

@@ -3,7 +3,7 @@ use Prim.Native.Nat.{ℕ, zero, suc, _<_}
 use mathlib.Core.Path.{_≡_, refl, sym, ap, ap₂, _∙_, subst}
 use mathlib.Core.Bool.{Bool, true, false, _&&_, cond}
 use mathlib.Core.List.{List, [], _∷_, _++_, map, List·Memᴰ·eq-of-singleton}
-use mathlib.Core.Logic.{_↔_, inr, ⊎-elim}
+use mathlib.Core.Logic.{_↔_, inl, inr, ⊎-elim}
 use native.Mathlib.Omega.{arith}
 use native.Mathlib.Nat.{le-of-suc-le-suc, not-suc-le-zero}
 use lib.ListN.{length, getD}
@@ -45,6 +45,10 @@ module _ {A : Type 0} where
   pairwise-across R [] m p x y a b = absurd (nowhere a)
   pairwise-across R (z ∷ l) m p x y a b =
       all-cons (λ w. R w y) (p .0 y (among-append l .1 (inr b))) (λ w k. pairwise-across R l m (p .1) w y k b) x a
+
+  pub pairwise-prefix : (R : A → A → Type 0) (l m : List A) → Pairwise R (l ++ m) → Pairwise R l
+  pairwise-prefix R [] m p = tt
+  pairwise-prefix R (x ∷ l) m p = (λ y k. p .0 y (among-append l .1 (inl k)), pairwise-prefix R l m (p .1))
 
   pub pairwise-suffix : (R : A → A → Type 0) (l m : List A) → Pairwise R (l ++ m) → Pairwise R m
   pairwise-suffix R [] m p = p

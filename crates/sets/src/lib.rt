@@ -3,7 +3,7 @@
 ghost use mathlib.Core.Path.{_≡_};
 ghost use mathlib.Core.Bool.{cond};
 ghost use Prim.Native.Nat.{_^_, _<_};
-ghost use Rattle.sets.specs.Sets.{_∈?_, _⊆?_, _⊂?_, _meets?_, _∪_, _∖_, ∅, full as fullOf, single, size as sizeOf};
+ghost use Rattle.sets.specs.Sets.{_∈?_, _⊆?_, _meets?_, _∪_, _∖_, ∅, full as fullOf, single, size as sizeOf};
 
 // Is a in the set x?
 pub fn member(a: u16, x: u16) -> bool
@@ -18,15 +18,6 @@ pub fn subset(x: u16, y: u16) -> bool
     ensures { λ r. ⌜ r ≡ (x ⊆? y) ⌝ }
 {
     x & y == x
-}
-
-// Is x a subset of y, and not y itself?
-pub fn proper_subset(x: u16, y: u16) -> bool
-    ensures { λ r. ⌜ r ≡ (x ⊂? y) ⌝ }
-{
-    let within = x & y == x;
-    let differ = x != y;
-    within & differ
 }
 
 // Is some member of x in y?
