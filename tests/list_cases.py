@@ -1,8 +1,7 @@
 """Cases of the call `list`.
 
-The answers are those of solver.py. Lists that document 01 states, lists of a separate
-brute-force program (docs/DECISIONS.md, "Known lists"), and lists and counts found by hand
-are asserted.
+The answers are those of solver.py. Lists that document 01 states, those of the sheets of our
+own (docs/DECISIONS.md, "Known lists"), and lists and counts found by hand are asserted.
 """
 
 from itertools import combinations
@@ -62,7 +61,7 @@ case("two views", KNOWN[6][0], *range(11), 101)
 case("no view", KNOWN[3][0], 1, 2, 3, 4, 101)
 case("no negations, no view", KNOWN[9][0], 1, 2, 3, 4, 101)
 
-# The sheets of crates/semantics/specs/Examples/Own.antt, with the lists of the brute-force program.
+# The sheets of crates/semantics/specs/Examples/Own.antt, with their lists.
 OWN = [
     (sheet("a b c", "a <- M a, M b", "c <- a, K c", "<- not not b", "b <- not M c"), (0, 0, 12, 4, 4, 0), []),
     (sheet("a", "a <- M a", "<- K a"), (0, 0, 2, 2, 0, 2), []),
