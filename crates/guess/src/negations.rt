@@ -13,7 +13,7 @@ pub struct Assumptions {
 }
 
 // One where `yes`, otherwise none.
-fn count(yes: bool) -> u16
+fn one_if(yes: bool) -> u16
     ensures { λ r. ⌜ r ≡ cond yes 1 0 ⌝ }
 {
     if yes {
@@ -37,11 +37,11 @@ pub fn assumed(x: Contents, guess: u16) -> Assumptions
         let k = member(a, x.k_atoms);
         let k_in = member(j, guess);
         unknown = include(unknown, a, k & k_in);
-        j = j + count(k);
+        j = j + one_if(k);
         let m = member(a, x.m_atoms);
         let m_in = member(j, guess);
         maybe = include(maybe, a, m & m_in);
-        j = j + count(m);
+        j = j + one_if(m);
         a += 1;
     }
     Assumptions { unknown, maybe }
@@ -60,11 +60,11 @@ pub fn found(x: Contents, known: u16, possible: u16) -> u16
         let k = member(a, x.k_atoms);
         let unknown = !member(a, known);
         guess = include(guess, j, k & unknown);
-        j = j + count(k);
+        j = j + one_if(k);
         let m = member(a, x.m_atoms);
         let may = member(a, possible);
         guess = include(guess, j, m & may);
-        j = j + count(m);
+        j = j + one_if(m);
         a += 1;
     }
     guess

@@ -15,7 +15,7 @@ ghost use Rattle.semantics.specs.Theorems.Returned.{SheetOf};
 ghost use Rattle.semantics.specs.Theorems.Calls.{GuessOf};
 ghost use Rattle.semantics.specs.Theorems.Records.{RecordsOf};
 
-// Called where no run comes: nothing meets its `requires`.
+// Unreachable: its `requires` is false.
 fn never()
     requires { ⌜ ⊥ ⌝ }
 {}

@@ -43,14 +43,14 @@ member-requires-2 c κs =
 include-requires : tie.Need-include-requires Inv-loop μ-loop
 include-requires c κs = omega (arith, c .before .before .loop-test .taken, c .before .before .before .before .before .pre .0)
 
-count-requires : tie.Need-count-requires Inv-loop μ-loop
-count-requires c κs = search needs
+one-if-requires : tie.Need-one-if-requires Inv-loop μ-loop
+one-if-requires c κs = search needs
 
 add-j : tie.Need-add-j Inv-loop μ-loop
 add-j c =
     let l = c .before .before .before .before .before .loop in
     let h = low _ (c .before .before .before .before .before .before .before .pre) (l .inv .0) (c .before .before .before .before .loop-test .taken) in
-    omega (arith, h, at-most-one (c .before .before .before .member .result) (c .count .ensures))
+    omega (arith, h, at-most-one (c .before .before .before .member .result) (c .one-if .ensures))
 
 member-requires-3 : tie.Need-member-requires-3 Inv-loop μ-loop
 member-requires-3 c κs = omega (arith, c .before .before .before .before .loop-test .taken, c .before .before .before .before .before .before .before .pre .0)
@@ -59,20 +59,20 @@ member-requires-4 : tie.Need-member-requires-4 Inv-loop μ-loop
 member-requires-4 c κs =
     let l = c .before .before .before .before .before .before .loop in
     let h = low _ (c .before .before .before .before .before .before .before .before .pre) (l .inv .0) (c .before .before .before .before .before .loop-test .taken) in
-    omega (arith, h, at-most-one (c .before .before .before .before .member .result) (c .before .count .ensures))
+    omega (arith, h, at-most-one (c .before .before .before .before .member .result) (c .before .one-if .ensures))
 
 include-requires-2 : tie.Need-include-requires-2 Inv-loop μ-loop
 include-requires-2 c κs = omega (arith, c .before .before .before .before .before .before .loop-test .taken, c .before .before .before .before .before .before .before .before .before .pre .0)
 
-count-requires-2 : tie.Need-count-requires-2 Inv-loop μ-loop
-count-requires-2 c κs = search needs
+one-if-requires-2 : tie.Need-one-if-requires-2 Inv-loop μ-loop
+one-if-requires-2 c κs = search needs
 
 add-j-2 : tie.Need-add-j-2 Inv-loop μ-loop
 add-j-2 c =
     let l = c .before .before .before .before .before .before .before .before .before .loop in
     let h = low _ (c .before .before .before .before .before .before .before .before .before .before .before .pre) (l .inv .0) (c .before .before .before .before .before .before .before .before .loop-test .taken) in
-    let k = at-most-one (c .before .before .before .before .before .before .before .member .result) (c .before .before .before .before .count .ensures) in
-    omega (arith, h, k, at-most-one (c .before .before .before .member3 .result) (c .count2 .ensures))
+    let k = at-most-one (c .before .before .before .before .before .before .before .member .result) (c .before .before .before .before .one-if .ensures) in
+    omega (arith, h, k, at-most-one (c .before .before .before .member3 .result) (c .one-if2 .ensures))
 
 add-a : tie.Need-add-a Inv-loop μ-loop
 add-a c = omega (arith, c .before .before .before .before .before .before .before .before .loop-test .taken, c .before .before .before .before .before .before .before .before .before .before .before .pre .0)
@@ -86,9 +86,9 @@ loop-again c =
     let h = c .before .before .before .before .before .before .before .before .loop-test .taken in
     let a = c .before .before .before .before .before .before .before .before .before .before .before .args in
     let k = c .before .before .before .before .before .before .before .member .ensures in
-    let n = c .before .before .before .before .count .ensures in
+    let n = c .before .before .before .before .one-if .ensures in
     let m = c .before .before .before .member3 .ensures in
-    let n′ = c .count2 .ensures in
+    let n′ = c .one-if2 .ensures in
     let i = c .before .before .before .before .before .before .member2 .ensures in
     let i′ = c .before .before .member4 .ensures in (
       at-next (a .x) (l .inv .0) h k n m n′,
@@ -113,12 +113,12 @@ assumed-spec =
     member-requires
     member-requires-2
     include-requires
-    count-requires
+    one-if-requires
     add-j
     member-requires-3
     member-requires-4
     include-requires-2
-    count-requires-2
+    one-if-requires-2
     add-j-2
     add-a
     loop-less
