@@ -1,5 +1,5 @@
--- The papers' reading of the definitions. Those before Negations are about the bytes of a sheet, and so are Below, Calls, ListCall, Desk and
--- QueryCall; Negations, Subjects, Reduct and ModalReduct about its rules; Decimal about the digits of a number; the others about any setting.
+-- The papers' reading of the definitions.
+-- ---- the bytes of a sheet: reading steps, what an accepted sheet says, and the layout
 pub mod Reading
 pub mod Fields
 pub mod Names
@@ -9,27 +9,32 @@ pub mod Layout
 pub mod Bytes
 pub mod Fitting
 pub mod Exact
+-- ---- what the calls return for any bytes
 pub mod Returned
 pub mod Check
+pub mod Below
+pub mod Calls
+pub mod ListCall
+pub mod Desk
+pub mod QueryCall
+-- ---- the rules of a sheet: negations and reducts
 pub mod Negations
 pub mod Subjects
 pub mod Reduct
+pub mod ModalReduct
+-- ---- any setting: stable sets, verdicts, ruling out
 pub mod Stable
 pub mod Verdict
-pub mod Below
-pub mod Calls
 pub mod Closure
 pub mod Apart
 pub mod Contradicted
+-- ---- any setting: world views, the order, the listing, the query
 pub mod WorldView
-pub mod ModalReduct
 pub mod Order
 pub mod Tally
 pub mod Walk
 pub mod Listing
 pub mod Records
-pub mod ListCall
-pub mod Desk
 pub mod Query
-pub mod QueryCall
+-- ---- the digits of a number
 pub mod Decimal

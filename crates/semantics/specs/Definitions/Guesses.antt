@@ -31,6 +31,7 @@ negationsOf n rs = flat (negationsOn rs) (upTo n)
 abbrev pub numbered : List Negation → ℕ → Negation
 numbered es j = getD es j (not-known 0)
 
--- "bit j set means that negation j is assumed to hold": the negation e is in the guess g
+-- "bit j set means that negation j is assumed to hold": the negation e is in the guess g. (`does (sameNegation ℕ-discrete d e)` tests whether
+-- d and e are the same negation; `ℕ-discrete` compares their atoms.)
 abbrev pub assumed : List Negation → ℕ → Negation → Bool
 assumed es g e = some (λ j. j ∈? g && does (sameNegation ℕ-discrete (numbered es j) e)) (upTo (length es))

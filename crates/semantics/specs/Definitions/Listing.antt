@@ -61,20 +61,16 @@ tallied views covered ruled tested empty other = record {
   other = other;
 }
 
--- the six, by how guesses of a name are counted
-abbrev pub tallyBy : Setting → ((ℕ → Bool) → ℕ) → Tally
-tallyBy s count = record {
-  views = count (isWorldView s);
-  covered = count (covered s);
-  ruled = count (ruled s);
-  tested = count (tested s);
-  empty = count (testedEmpty s);
-  other = count (testedOther s);
-}
-
 -- "each of the six numbers says how many guesses bear its name"
 unfoldable pub tallyOf : Setting → Tally
-tallyOf s = tallyBy s (λ f. length (keep f (guesses s)))
+tallyOf s = record {
+  views = length (keep (isWorldView s) (guesses s));
+  covered = length (keep (covered s) (guesses s));
+  ruled = length (keep (ruled s) (guesses s));
+  tested = length (keep (tested s) (guesses s));
+  empty = length (keep (testedEmpty s) (guesses s));
+  other = length (keep (testedOther s) (guesses s));
+}
 
 -- "four 16-bit words, guess, known, possible, number of sets"
 pub record View : Type 0 where

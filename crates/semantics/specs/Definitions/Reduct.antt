@@ -32,7 +32,8 @@ holdsBy es g M a = assumed es g (may-be a)
 holdsBy es g notM a = not (assumed es g (may-be a))
 
 -- Below, `holds` says which literals hold, and n is the number of atoms.
--- To a literal of a in the rule r the table does x.
+-- The rule r has a literal of the atom a in one of the masks 4 to 7, and what the table says is done to it is x. (`does (sameAction y x)`
+-- tests whether y and x are the same action.)
 abbrev pub acted : (holds : Subjective → ℕ → Bool) → EpistemicRule → Action → ℕ → Bool
 acted holds r x a = some (λ m. a ∈? r .mask m && does (sameAction (table m (holds m a)) x)) (K ∷ notK ∷ M ∷ notM ∷ [])
 

@@ -19,7 +19,7 @@ use Rattle.semantics.specs.Theorems.Accepted.{accepted-read}
 use Rattle.semantics.specs.Theorems.Stable.{belief-sets-few}
 use Rattle.semantics.specs.Theorems.Returned.{reading-refused, limited-fits, short-limited, limited-refused}
 use Rattle.semantics.specs.Theorems.Below.{BelowOf, opened-below, below-returned, below-returns, NotBelow, refused-below}
-use Rattle.semantics.specs.Theorems.Verdict.{Verifiable, Verified, dec-verifiable, verified-verdict, verified-means}
+use Rattle.semantics.specs.Theorems.Verdict.{Verifiable, Verified, definition-5, verified-verdict, verified-means}
 
 -- the bytes are an accepted sheet, s is its setting, and g is a guess of it
 abbrev pub GuessOf : (sheet : List ℕ) (g : ℕ) (s : Setting) → Type 0
@@ -74,7 +74,7 @@ module _ (sheet : List ℕ) (g : ℕ) where
 
   pub verifiable-verified : {s : Setting} → GuessOf sheet g s → Verifiable s g
       → verdictCall sheet g ≡ accepted (verified (knownIn s (beliefSets s g)) (possibleIn (beliefSets s g)) (length (beliefSets s g)))
-  verifiable-verified {s} h v = verdict-is h ∙ ap accepted (verified-verdict s g (is-true (dec-verifiable s g (h .below)) v))
+  verifiable-verified {s} h v = verdict-is h ∙ ap accepted (verified-verdict s g (is-true (definition-5 s g (h .below)) v))
 
   -- ---- the belief sets
   pub sets-say : (words : ℕ) (w : List ℕ) → beliefSetsCall sheet g words ≡ accepted w → (s : Setting) × GuessOf sheet g s × (w ≡ beliefSets s g) × (length w ≤ words)

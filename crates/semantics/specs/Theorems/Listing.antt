@@ -12,7 +12,7 @@ use Rattle.semantics.specs.Definitions.Setting.{Setting, k}
 use Rattle.semantics.specs.Definitions.Verdict.{verified, verdict}
 use Rattle.semantics.specs.Definitions.Order.{order}
 use Rattle.semantics.specs.Definitions.Listing.{isWorldView, tallyOf, View, viewOf, viewsAlong, listing}
-use Rattle.semantics.specs.Theorems.Verdict.{Verifiable, dec-verifiable, verified-verdict}
+use Rattle.semantics.specs.Theorems.Verdict.{Verifiable, definition-5, verified-verdict}
 use Rattle.semantics.specs.Theorems.WorldView.{WorldView, definition-6, maximal-superset}
 use Rattle.semantics.specs.Theorems.Tally.{Number, number-only, tally-of}
 use Rattle.semantics.specs.Theorems.Order.{Before, Enumerates, order-sorted, order-enumerates}
@@ -21,7 +21,7 @@ use Rattle.semantics.specs.Theorems.Walk.{count-along}
 module _ (s : Setting) where
   -- "Known, possible and number of sets are those of the verdict on that guess"
   pub view-verdict : (g : ℕ) → g < 2 ^ k s → WorldView s g → verdict s g ≡ verified (viewOf s g .known) (viewOf s g .possible) (viewOf s g .sets)
-  view-verdict g l w = verified-verdict s g (is-true (dec-verifiable s g l) (w .verifiable))
+  view-verdict g l w = verified-verdict s g (is-true (definition-5 s g l) (w .verifiable))
 
   -- what relates the guesses of a list relates its views
   views-pairwise : (R : ℕ → ℕ → Type 0) (l : List ℕ) → Pairwise R l → Pairwise (λ v w. R (v .guess) (w .guess)) (viewsAlong s l)

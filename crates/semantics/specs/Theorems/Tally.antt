@@ -13,7 +13,7 @@ use Rattle.semantics.specs.Definitions.Setting.{Setting, k, guesses}
 use Rattle.semantics.specs.Definitions.Verdict.{beliefSets, Verdict, empty, other, verified, verdict, isEmpty, isOther, isVerified}
 use Rattle.semantics.specs.Definitions.Propagation.{contradicted}
 use Rattle.semantics.specs.Definitions.Listing.{isWorldView, covered, ruled, tested, testedEmpty, testedOther, Tally, tallyOf}
-use Rattle.semantics.specs.Theorems.Verdict.{Verifiable, dec-verifiable, dec-empty, dec-unverifiable}
+use Rattle.semantics.specs.Theorems.Verdict.{Verifiable, definition-5, dec-empty, dec-unverifiable}
 use Rattle.semantics.specs.Theorems.Contradicted.{Contradicted, dec-contradicted}
 use Rattle.semantics.specs.Theorems.WorldView.{WorldView, Covered, definition-6, dec-covered, view-tested}
 
@@ -119,7 +119,7 @@ module _ (s : Setting) where
     tested-are = number s _ _ (λ g _. dec-tested g);
     empty-are = number s _ _ (λ g _. dec-and (dec-tested g) (dec-empty s g));
     other-are = number s _ _ (λ g l. dec-and (dec-tested g) (dec-unverifiable s g l));
-    tested-views = number s _ _ (λ g l. rw (view-tested s g l) (dec-and (dec-tested g) (dec-verifiable s g l)));
+    tested-views = number s _ _ (λ g l. rw (view-tested s g l) (dec-and (dec-tested g) (definition-5 s g l)));
     all-are = all-counted s;
     tested-parts = tested-counted s;
   }

@@ -89,10 +89,10 @@ module _ (s : Setting) (g : ℕ) where
     exact = λ j h. subst (λ x. (j ∈ x) ↔ Satisfied (beliefSets s g) (negation s j)) e (found-exact s (beliefSets s g) belief-below first j h);
   }
 
-  -- 'verified' exactly when reduct-verifiable
-  pub dec-verifiable : g < 2 ^ k s → Decides (Verifiable s g) (isVerified (verdict s g))
+  -- 000, Definition 5: 'verified' exactly when reduct-verifiable
+  pub definition-5 : g < 2 ^ k s → Decides (Verifiable s g) (isVerified (verdict s g))
   unfolding verdict
-  dec-verifiable l =
+  definition-5 l =
       let w = beliefSets s g in
       rw (tests _ _ _ _ (null w) (not (eqb (guessFound s w) g)) .1, Bool·not-not (eqb (guessFound s w) g))
       (dec-iff (
@@ -171,7 +171,7 @@ pub record Verified (s : Setting) (g known possible sets : ℕ) : Type 0 where
 pub verified-means : (s : Setting) (g : ℕ) {known possible sets : ℕ} → g < 2 ^ k s → verdict s g ≡ verified known possible sets → Verified s g known possible sets
 verified-means s g l d =
     let t : isVerified (verdict s g) ≡ true = ap isVerified d in
-    let v = dec-verifiable s g l .yes t in
+    let v = definition-5 s g l .yes t in
     let (a, b, c) = values (sym d ∙ verified-verdict s g t) in
     record {
       verifiable = v;

@@ -18,7 +18,7 @@ use Rattle.sets.specs.Size.{size-⊂}
 use Rattle.semantics.specs.Definitions.Setting.{Setting, k, guesses}
 use Rattle.semantics.specs.Definitions.Verdict.{Verdict, empty, other, verified, verdict, isEmpty, isOther, isVerified}
 use Rattle.semantics.specs.Definitions.Propagation.{contradicted}
-use Rattle.semantics.specs.Definitions.Listing.{Tally, isWorldView, covered, ruled, tested, testedEmpty, testedOther, tallyBy, tallyOf, viewOf, viewsAlong}
+use Rattle.semantics.specs.Definitions.Listing.{Tally, isWorldView, covered, ruled, tested, testedEmpty, testedOther, tallyOf, viewOf, viewsAlong}
 use Rattle.semantics.specs.Walk.{Walked, start, judgedAs, outcomeBy, countedBy, viewsBy, outcome, advance, walk}
 use Rattle.semantics.specs.Theorems.Verdict.{verified-verdict}
 use Rattle.semantics.specs.Theorems.WorldView.{definition-6, dec-covered, tested-is, view-tested}
@@ -70,6 +70,17 @@ views-are s g false false = go (verdict s g) (verified-verdict s g)
 pub walk-more : (s : Setting) (l : List ℕ) (g : ℕ) → walk s (l ++ g ∷ []) ≡ advance s (walk s l) g
 unfolding walk
 walk-more s l g = foldl-snoc (advance s) start l g
+
+-- the six numbers, by how guesses of a name are counted
+abbrev tallyBy : Setting → ((ℕ → Bool) → ℕ) → Tally
+tallyBy s count = record {
+  views = count (isWorldView s);
+  covered = count (covered s);
+  ruled = count (ruled s);
+  tested = count (tested s);
+  empty = count (testedEmpty s);
+  other = count (testedOther s);
+}
 
 module _ (s : Setting) where
   -- what the walk is to have after the guesses d

@@ -13,7 +13,7 @@ use Rattle.semantics.specs.Definitions.Setting.{Setting, k, guesses}
 use Rattle.semantics.specs.Definitions.Verdict.{verdict, isVerified}
 use Rattle.semantics.specs.Definitions.Listing.{isWorldView, covered, tested, testedView}
 use Rattle.semantics.specs.Definitions.Propagation.{contradicted}
-use Rattle.semantics.specs.Theorems.Verdict.{Verifiable, dec-verifiable}
+use Rattle.semantics.specs.Theorems.Verdict.{Verifiable, definition-5}
 use Rattle.semantics.specs.Theorems.Contradicted.{dec-contradicted, contradicted-unverifiable}
 
 module _ (s : Setting) where
@@ -26,7 +26,7 @@ module _ (s : Setting) where
   Above g = (h : ℕ) × (h < 2 ^ k s) × ((g ⊂ h) × Verifiable s h)
 
   dec-above : (g : ℕ) → Decides (Above g) (some (λ h. g ⊂? h && isVerified (verdict s h)) (guesses s))
-  dec-above g = dec-any _ _ (2 ^ k s) (λ h l. dec-and (dec-⊂ g h) (dec-verifiable s h l))
+  dec-above g = dec-any _ _ (2 ^ k s) (λ h l. dec-and (dec-⊂ g h) (definition-5 s h l))
 
   pub definition-6 : (g : ℕ) → g < 2 ^ k s → Decides (WorldView g) (isWorldView s g)
   unfolding isWorldView
@@ -34,7 +34,7 @@ module _ (s : Setting) where
       dec-iff (
         λ q. record { verifiable = q .0; maximal = λ h m p v. q .1 (h, m, (p, v)) },
         λ w. (w .verifiable, λ a. w .maximal (a .0) (a .1) (a .2 .0) (a .2 .1)),
-      ) (dec-and (dec-verifiable s g l) (dec-not (dec-above g)))
+      ) (dec-and (definition-5 s g l) (dec-not (dec-above g)))
 
   -- every verified guess has a maximal verified superset: m bounds how much larger it can be
   climb : (m g : ℕ) → k s ≤ size g + m → g < 2 ^ k s → Verifiable s g → (h : ℕ) × (h < 2 ^ k s) × (g ⊆ h) × WorldView h
@@ -77,4 +77,4 @@ module _ (s : Setting) where
           maximal = λ h lh p v. let (x, lx, sx, wx) = maximal-superset h lh v in q .0 .0 (x, lx, (⊂-⊆-trans p sx, wx));
         },
         λ w. (((λ c. w .maximal (c .0) (c .1) (c .2 .0) (c .2 .1 .verifiable)), λ c. contradicted-unverifiable s g c (w .verifiable)), w .verifiable),
-      ) (dec-and (dec-and (dec-not (dec-covered g)) (dec-not (dec-contradicted s g))) (dec-verifiable s g l))))
+      ) (dec-and (dec-and (dec-not (dec-covered g)) (dec-not (dec-contradicted s g))) (definition-5 s g l))))
