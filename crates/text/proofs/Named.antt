@@ -1,10 +1,9 @@
 -- The names of an accepted sheet, where they lie in its bytes, and the lines that name them. Assumes nothing.
 use Prim.Native.Nat.{ℕ, zero, suc, _+_, _≤_, _<_}
-use mathlib.Core.Path.{_≡_, refl, sym, ap, ap₂, _∙_, subst}
+use mathlib.Core.Path.{_≡_, refl, sym, ap, ap₂, _∙_}
 use mathlib.Core.Bool.{Bool, true, false, cond}
 use mathlib.Core.List.{List, [], _∷_, _++_, map, append-assoc}
-use mathlib.Core.Logic.{⊎-elim}
-use native.Mathlib.Nat.{eq-or-lt-of-le, le-of-suc-le-suc, not-suc-le-zero}
+use native.Mathlib.Nat.{le-of-suc-le-suc, not-suc-le-zero}
 use native.Mathlib.Numerals.{add-one}
 use native.Mathlib.Omega.{arith}
 use borrow.Author.Tests.{le-leb, lt-leb}
@@ -14,11 +13,11 @@ use lib.Seq.{length-take-le}
 use Rattle.sets.specs.Lists.{_among_, here, later, keep, flat, flat-snoc, upTo, among-upTo, getD-among}
 use Rattle.sets.specs.Sets.{_∈?_}
 use Rattle.semantics.specs.Definitions.Reading.{field}
-use Rattle.semantics.specs.Definitions.Sheet.{Sheet, byteAt, mostAtoms}
+use Rattle.semantics.specs.Definitions.Sheet.{Sheet, byteAt, mostAtoms, longestName}
 use Rattle.semantics.specs.Definitions.Check.{opened}
 use Rattle.semantics.specs.Definitions.Program.{bytes, decimal, namesOf, viewLine, setLine}
 use Rattle.semantics.specs.Fields.{nameFrom, afterName, namesFrom, afterNames}
-use Rattle.semantics.specs.Theorems.Fields.{afterNames-more}
+use Rattle.semantics.specs.Theorems.Fields.{afterNames-more, afterNames-rises}
 use Rattle.semantics.specs.Theorems.Accepted.{accepted-lies}
 use Rattle.semantics.specs.Theorems.Layout.{accepted-fits}
 use Rattle.text.specs.Names.{atomsIn, nameField, memberField, memberFields}
@@ -45,24 +44,16 @@ module _ (s : List ℕ) where
   name-lies (suc n) p zero h = refl
   name-lies (suc n) p (suc a) h = name-lies n (afterName s p) a (le-of-suc-le-suc h)
 
-  no-earlier : (a n : ℕ) → a ≤ n → afterNames s a 1 ≤ afterNames s n 1
-  no-earlier a zero h = let e : a ≡ 0 = omega arith in subst (λ m. afterNames s a 1 ≤ afterNames s m 1) e (omega arith)
-  no-earlier a (suc n) h =
-      ⊎-elim
-      (λ e. subst (λ m. afterNames s a 1 ≤ afterNames s m 1) e (omega arith))
-      (λ l. omega (arith, no-earlier a n (le-of-suc-le-suc l), afterNames-more s n 1))
-      (eq-or-lt-of-le h)
-
   -- a name that is there and short enough
-  pub name-there : (p : ℕ) → byteAt s p ≤ 12 → afterName s p ≤ length s → nameField s p ≡ 32 ∷ nameFrom s p
-  name-there p h l = rw (le-leb (byteAt s p) 12 h) (rw (le-leb (afterName s p) (length s) l))
+  pub name-there : (p : ℕ) → byteAt s p ≤ longestName → afterName s p ≤ length s → nameField s p ≡ 32 ∷ nameFrom s p
+  name-there p h l = rw (le-leb (byteAt s p) longestName h) (rw (le-leb (afterName s p) (length s) l))
 
   -- one that is not
-  pub name-long-byte : (p : ℕ) → 12 < byteAt s p → nameField s p ≡ []
-  name-long-byte p h = rw (lt-leb (byteAt s p) 12 h)
+  pub name-long-byte : (p : ℕ) → longestName < byteAt s p → nameField s p ≡ []
+  name-long-byte p h = rw (lt-leb (byteAt s p) longestName h)
 
   pub name-cut : (p : ℕ) → length s < afterName s p → nameField s p ≡ []
-  name-cut p l = go (leb (byteAt s p) 12)
+  name-cut p l = go (leb (byteAt s p) longestName)
     where
       go : (b : Bool) → cond b (cond (leb (afterName s p) (length s)) (32 ∷ nameFrom s p) []) [] ≡ []
       go true = rw (lt-leb (afterName s p) (length s) l)
@@ -91,9 +82,9 @@ module _ (s : List ℕ) (x : Sheet) (end : ℕ) (e : opened s ≡ field x end) w
       let n = length (x .names) in
       let name : getD (x .names) a [] ≡ nameFrom s p = ap (λ l. getD l a []) (lies .names-lie) ∙ name-lies s n 1 a h in
       let there : afterName s p ≤ length s =
-      omega (arith, no-earlier s (suc a) n h, afterNames-more s a 1, lies .rules-begin, lies .whole) in
+      omega (arith, afterNames-rises s (suc a) n 1 h, afterNames-more s a 1, lies .rules-begin, lies .whole) in
       let short = accepted-fits s x end e .good-names (getD (x .names) a []) (getD-among (x .names) [] a h) .not-long in
-      let few : byteAt s p ≤ 12 = omega (arith, short, ap length name, name-long s p there) in
+      let few : byteAt s p ≤ longestName = omega (arith, short, ap length name, name-long s p there) in
       name-there s p few there ∙ ap (λ l. 32 ∷ l) (sym name)
 
   atoms-counted : atomsIn s ≡ length (x .names)

@@ -8,9 +8,9 @@ ghost use mathlib.Core.List.{[]};
 ghost use Prim.Native.Nat.{_+_, _≤_, _<_};
 ghost use lib.ListN.{length};
 ghost use Rattle.sets.specs.Sets.{_∈?_};
-ghost use Rattle.semantics.specs.Definitions.Sheet.{byteAt};
+ghost use Rattle.semantics.specs.Definitions.Sheet.{byteAt, mostAtoms};
 ghost use Rattle.text.specs.Appended.{Appended};
-ghost use Rattle.text.specs.Names.{atomsIn, nameField, memberFields};
+ghost use Rattle.text.specs.Names.{nameRoom, namesRoom, namesEnd, atomsIn, nameField, memberFields};
 
 // The byte at a place; 0 past the end.
 fn byte(s: &[u8], place: usize) -> usize
@@ -24,7 +24,7 @@ fn byte(s: &[u8], place: usize) -> usize
 
 // The number of atoms, if it is one that a sheet can have.
 fn atoms(s: &[u8]) -> u16
-    ensures { λ r. ⌜ (r ≡ atomsIn (now (s .entry))) × (r ≤ 15) ⌝ }
+    ensures { λ r. ⌜ (r ≡ atomsIn (now (s .entry))) × (r ≤ mostAtoms) ⌝ }
 {
     let n = byte(s, 0);
     if 15 < n {
@@ -35,9 +35,9 @@ fn atoms(s: &[u8]) -> u16
 
 // A space and the name whose length stands at a place, if it is there.
 fn put_name(s: &[u8], place: usize, at: usize, out: &mut [u8]) -> usize
-    requires { ⌜ (place < 4096) × (at + 13 ≤ length (now out)) ⌝ }
+    requires { ⌜ (place < namesEnd) × (at + nameRoom ≤ length (now out)) ⌝ }
     ensures { λ r. ⌜ Appended at (nameField (now (s .entry)) place) (now (out .entry)) (now (out .exit)) r ⌝ }
-    ensures { λ r. ⌜ r ≤ at + 13 ⌝ }
+    ensures { λ r. ⌜ r ≤ at + nameRoom ⌝ }
 {
     let n = byte(s, place);
     if 12 < n {
@@ -54,9 +54,9 @@ fn put_name(s: &[u8], place: usize, at: usize, out: &mut [u8]) -> usize
 
 // The same if atom a is in the set.
 fn put_member(s: &[u8], a: u16, set: u16, place: usize, at: usize, out: &mut [u8]) -> usize
-    requires { ⌜ (a < 16) × (place < 4096) × (at + 13 ≤ length (now out)) ⌝ }
+    requires { ⌜ (a < 16) × (place < namesEnd) × (at + nameRoom ≤ length (now out)) ⌝ }
     ensures { λ r. ⌜ Appended at (cond (a ∈? set) (nameField (now (s .entry)) place) []) (now (out .entry)) (now (out .exit)) r ⌝ }
-    ensures { λ r. ⌜ r ≤ at + 13 ⌝ }
+    ensures { λ r. ⌜ r ≤ at + nameRoom ⌝ }
 {
     if member(a, set) {
         return put_name(s, place, at, out);
@@ -66,9 +66,9 @@ fn put_member(s: &[u8], a: u16, set: u16, place: usize, at: usize, out: &mut [u8
 
 // The names of the atoms in the set, by atom number, each after a space.
 pub fn put_names(s: &[u8], set: u16, from: usize, out: &mut [u8]) -> usize
-    requires { ⌜ from + 195 ≤ length (now out) ⌝ }
+    requires { ⌜ from + namesRoom ≤ length (now out) ⌝ }
     ensures { λ r. ⌜ Appended from (memberFields (now (s .entry)) set (atomsIn (now (s .entry)))) (now (out .entry)) (now (out .exit)) r ⌝ }
-    ensures { λ r. ⌜ r ≤ from + 195 ⌝ }
+    ensures { λ r. ⌜ r ≤ from + namesRoom ⌝ }
 {
     let n = atoms(s);
     let mut at = from;

@@ -9,7 +9,7 @@ use lib.ListN.{length, getD, take}
 use Rattle.sets.specs.Lists.{keep, flat, upTo}
 use Rattle.sets.specs.Sets.{_∈?_}
 use Rattle.semantics.specs.Definitions.Reading.{Reading, field, refused}
-use Rattle.semantics.specs.Definitions.Sheet.{Sheet}
+use Rattle.semantics.specs.Definitions.Sheet.{Sheet, longestSheet}
 use Rattle.semantics.specs.Definitions.Check.{setting, opened, Numbers, numbersOf}
 use Rattle.semantics.specs.Definitions.Verdict.{beliefSets}
 use Rattle.semantics.specs.Definitions.Listing.{Tally, six, tallyOf, View, listing}
@@ -70,7 +70,7 @@ linesOf (refused number place) = refusedLine number place
 
 -- "reads one sheet from standard input (its first 1,222 bytes decide)"
 abbrev pub mostRead : ℕ
-mostRead = 1222
+mostRead = longestSheet + 1
 
 unfoldable pub printed : (input : List ℕ) → List ℕ
 printed input = linesOf (opened (take mostRead input))

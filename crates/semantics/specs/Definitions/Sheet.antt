@@ -40,6 +40,14 @@ mostAtoms = 15
 abbrev pub mostRules : ℕ
 mostRules = 64
 
+-- "a length byte 1 to 12"
+abbrev pub longestName : ℕ
+longestName = 12
+
+-- "The longest sheet has 1,221 bytes": two counts, fifteen names with their lengths, and 64 rules of 16 bytes
+abbrev pub longestSheet : ℕ
+longestSheet = 2 + (1 + longestName) * mostAtoms + 16 * mostRules
+
 -- Below, s is the bytes of a sheet.
 module _ (s : List ℕ) where
   -- "All fields are unsigned". "A place in the sheet is the offset, from 0, of the named field's first byte."
@@ -72,7 +80,7 @@ module _ (s : List ℕ) where
   unfoldable pub nameAt : (earlier : List (List ℕ)) (at : ℕ) → Reading (List ℕ)
   nameAt earlier at =
       present at 1
-      (require (between 1 12 (byteAt at)) 3 at
+      (require (between 1 longestName (byteAt at)) 3 at
       (present (at + 1) (byteAt at)
       (times (byteAt at) [] nameByteAt (at + 1) then λ name next.
       require (not (some (sameList name) earlier)) 4 at

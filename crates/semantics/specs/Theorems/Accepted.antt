@@ -10,12 +10,12 @@ use Rattle.sets.specs.Lists.{nowhere, all-getD, getD-upTo}
 use Rattle.sets.specs.Sets.{Below, AllBelow}
 use Rattle.sets.specs.Members.{getD-below}
 use Rattle.semantics.specs.Definitions.Reading.{field, times}
-use Rattle.semantics.specs.Definitions.Sheet.{Sheet, byteAt, wordAt, countAt, nameAt, ruleAt, sections, mostAtoms, mostRules}
+use Rattle.semantics.specs.Definitions.Sheet.{Sheet, byteAt, wordAt, countAt, nameAt, ruleAt, sections, mostAtoms, mostRules, longestSheet}
 use Rattle.semantics.specs.Definitions.Setting.{k}
 use Rattle.semantics.specs.Definitions.Check.{mostNegations, setting, opened}
 use Rattle.semantics.specs.Fields.{namesFrom, afterNames, ruleFrom, rulesFrom}
 use Rattle.semantics.specs.Theorems.Reading.{then-field, require-field, field-same, times-length}
-use Rattle.semantics.specs.Theorems.Fields.{count-field, names-field, rules-field}
+use Rattle.semantics.specs.Theorems.Fields.{afterNames-rises, count-field, names-field, rules-field}
 use Rattle.semantics.specs.Theorems.Places.{Within, opened-in}
 
 -- what the reading of the sections came through; the number of rules stands at `countedAt`
@@ -39,20 +39,20 @@ module _ (s : List ℕ) where
   pub sections-read : (x : Sheet) (end : ℕ) → sections s ≡ field x end → Read s x end
   unfolding sections
   sections-read x end e =
-      let (n, at₁, e₁, r₁) = then-field (countAt s 15 0) _ e in
+      let (n, at₁, e₁, r₁) = then-field (countAt s mostAtoms 0) _ e in
       let (names, at₂, e₂, r₂) = then-field (times n [] (nameAt s) at₁) _ r₁ in
-      let (m, at₃, e₃, r₃) = then-field (countAt s 64 at₂) _ r₂ in
+      let (m, at₃, e₃, r₃) = then-field (countAt s mostRules at₂) _ r₂ in
       let (rules, at₄, e₄, r₄) = then-field (times m [] (λ _. ruleAt s n) at₃) _ r₃ in
       let (t, r₅) = require-field (eqb at₄ (length s)) 6 at₄ (field (record { names = names; rules = rules; rulesAt = at₃ }) at₄) r₄ in
       let (ex, ee) = field-same r₅ in
       same ex ee (parts n m at₁ at₂ at₃ at₄ names rules e₁ e₂ e₃ e₄ (eqb-true at₄ (length s) t))
     where
-      parts : (n m at₁ at₂ at₃ at₄ : ℕ) (names rules : List (List ℕ)) → countAt s 15 0 ≡ field n at₁ → times n [] (nameAt s) at₁ ≡ field names at₂
-          → countAt s 64 at₂ ≡ field m at₃ → times m [] (λ _. ruleAt s n) at₃ ≡ field rules at₄ → at₄ ≡ length s
+      parts : (n m at₁ at₂ at₃ at₄ : ℕ) (names rules : List (List ℕ)) → countAt s mostAtoms 0 ≡ field n at₁ → times n [] (nameAt s) at₁ ≡ field names at₂
+          → countAt s mostRules at₂ ≡ field m at₃ → times m [] (λ _. ruleAt s n) at₃ ≡ field rules at₄ → at₄ ≡ length s
           → Read s (record { names = names; rules = rules; rulesAt = at₃ }) at₄
       parts n m at₁ at₂ at₃ at₄ names rules e₁ e₂ e₃ e₄ e₅ =
-          let (c₁, c₂, c₃, c₄) = count-field s 15 0 n at₁ e₁ in
-          let (d₁, d₂, d₃, d₄) = count-field s 64 at₂ m at₃ e₃ in
+          let (c₁, c₂, c₃, c₄) = count-field s mostAtoms 0 n at₁ e₁ in
+          let (d₁, d₂, d₃, d₄) = count-field s mostRules at₂ m at₃ e₃ in
           let ln = times-length (nameAt s) n at₁ e₂ in
           let lm = times-length (λ _. ruleAt s n) m at₃ e₄ in
           record {
@@ -86,7 +86,9 @@ module _ (s : List ℕ) where
 -- where the parts of the sheet x, read to the place `end`, lie in the bytes s
 pub record Lies (s : List ℕ) (x : Sheet) (end : ℕ) : Type 0 where
   pub ends : end ≡ length s
-  pub short : length s ≤ 1221
+  -- "The longest sheet has 1,221 bytes, the shortest two."
+  pub not-long : length s ≤ longestSheet
+  pub not-short : 2 ≤ length s
   pub atoms-byte : byteAt s 0 ≡ length (x .names)
   pub names-lie : x .names ≡ namesFrom s (length (x .names)) 1
   pub rules-begin : x .rulesAt ≡ afterNames s (length (x .names)) 1 + 1
@@ -96,13 +98,15 @@ pub record Lies (s : List ℕ) (x : Sheet) (end : ℕ) : Type 0 where
 
 module _ (s : List ℕ) (x : Sheet) (end : ℕ) (e : opened s ≡ field x end) where
   pub accepted-lies : Lies s x end
+  unfolding afterNames
   accepted-lies =
       let r = accepted-read s x end e .0 in
       let (names, counted) = names-field s _ 1 _ _ (r .names-read) in
       let (rules, ends, _) = rules-field s (length (x .names)) _ (x .rulesAt) end _ (r .rules-read) in
       record {
         ends = r .ends;
-        short = omega (arith, r .ends, subst (Within 1221) e (opened-in s));
+        not-long = omega (arith, r .ends, subst (Within 7 longestSheet) e (opened-in s));
+        not-short = omega (arith, r .more-bytes, counted, afterNames-rises s 0 (length (x .names)) 1 (omega arith));
         atoms-byte = r .atoms-byte;
         names-lie = names;
         rules-begin = r .after-count ∙ ap (λ p. p + 1) counted;

@@ -3,6 +3,8 @@ use Prim.Native.Nat.{ℕ, zero, suc, _+_, _*_, _^_, _<_, _≤_}
 use mathlib.Core.Path.{_≡_, refl, sym, ap, _∙_, subst}
 use mathlib.Core.Bool.{true, not}
 use mathlib.Core.List.{List, [], _∷_, _++_, map-append}
+use mathlib.Core.Logic.{⊎-elim}
+use native.Mathlib.Nat.{eq-or-lt-of-le, le-of-suc-le-suc}
 use native.Mathlib.Omega.{arith}
 use borrow.Author.Tests.{leb-true, ltb-true}
 use lib.Dec.{leb, ltb}
@@ -11,7 +13,7 @@ use lib.Seq.{take-suc, getD-drop}
 use Rattle.sets.specs.Lists.{nowhere, all-snoc, some, sameList, null, upTo}
 use Rattle.sets.specs.Sets.{Below, AllBelow}
 use Rattle.semantics.specs.Definitions.Reading.{Reading, field, times}
-use Rattle.semantics.specs.Definitions.Sheet.{byteAt, wordAt, between, present, countAt, nameByte, nameByteAt, nameAt, maskAt, ruleAt}
+use Rattle.semantics.specs.Definitions.Sheet.{byteAt, wordAt, between, longestName, present, countAt, nameByte, nameByteAt, nameAt, maskAt, ruleAt}
 use Rattle.semantics.specs.Fields.{bytesFrom, nameFrom, afterName, namesFrom, afterNames, masksFrom, ruleFrom, rulesFrom}
 use Rattle.semantics.specs.Theorems.Reading.{then-field, require-field, field-same, times-field}
 
@@ -26,6 +28,14 @@ module _ (s : List ℕ) where
   unfolding afterNames
   afterNames-more zero at = refl
   afterNames-more (suc n) at = afterNames-more n (afterName s at)
+
+  pub afterNames-rises : (a n at : ℕ) → a ≤ n → afterNames s a at ≤ afterNames s n at
+  afterNames-rises a zero at h = let e : a ≡ 0 = omega arith in subst (λ m. afterNames s a at ≤ afterNames s m at) e (omega arith)
+  afterNames-rises a (suc n) at h =
+      ⊎-elim
+      (λ e. subst (λ m. afterNames s a at ≤ afterNames s m at) e (omega arith))
+      (λ l. omega (arith, afterNames-rises a n at (le-of-suc-le-suc l), afterNames-more n at))
+      (eq-or-lt-of-le h)
 
   pub bytesFrom-more : (n at : ℕ) → at + n < length s → bytesFrom s (suc n) at ≡ bytesFrom s n at ++ byteAt s (at + n) ∷ []
   bytesFrom-more n at h =
@@ -85,12 +95,12 @@ module _ (s : List ℕ) where
 
   -- what the reading of a name came through
   pub name-read : (earlier : List (List ℕ)) (at next : ℕ) (v : List ℕ) → nameAt s earlier at ≡ field v next
-      → (between 1 12 (byteAt s at) ≡ true) × (at + 1 + byteAt s at ≤ length s) × (times (byteAt s at) [] (nameByteAt s) (at + 1) ≡ field v next)
+      → (between 1 longestName (byteAt s at) ≡ true) × (at + 1 + byteAt s at ≤ length s) × (times (byteAt s at) [] (nameByteAt s) (at + 1) ≡ field v next)
       × (not (some (sameList v) earlier) ≡ true)
   unfolding nameAt
   name-read earlier at next v e =
       let (_, r₁) = present-field at 1 _ e in
-      let (t, r₂) = require-field (between 1 12 (byteAt s at)) 3 at _ r₁ in
+      let (t, r₂) = require-field (between 1 longestName (byteAt s at)) 3 at _ r₁ in
       let (l, r₃) = present-field (at + 1) (byteAt s at) _ r₂ in
       let (w, n, d, r₄) = then-field (times (byteAt s at) [] (nameByteAt s) (at + 1)) _ r₃ in
       let (t′, r₅) = require-field (not (some (sameList w) earlier)) 4 at (field w n) r₄ in

@@ -12,7 +12,7 @@ use Rattle.sets.specs.Lists.{_among_, here, among-middle, null, sameList, flat,
 use Rattle.sets.specs.Pairwise.{Distinct, pairwise-across}
 use Rattle.sets.specs.Sets.{Below}
 use Rattle.semantics.specs.Definitions.Reading.{Reading, field, _then_, require, times}
-use Rattle.semantics.specs.Definitions.Sheet.{byteAt, wordAt, present, countAt, nameByteAt, nameAt, maskAt, ruleAt, sections}
+use Rattle.semantics.specs.Definitions.Sheet.{byteAt, wordAt, present, countAt, nameByteAt, nameAt, maskAt, ruleAt, sections, mostAtoms, mostRules, longestName}
 use Rattle.semantics.specs.Definitions.Setting.{k}
 use Rattle.semantics.specs.Definitions.Check.{mostNegations, setting, opened}
 use Rattle.semantics.specs.Theorems.Names.{GoodName, Letter, Allowed, dec-between, dec-allowed}
@@ -107,7 +107,7 @@ module _ (s : List ℕ) where
       let z : at + 1 + length n ≡ at + length (nameBytes n) = omega arith in
       present-is at (nameBytes n) others 1 e (omega arith) (omega arith)
       (rw (byte-here at (length n) (n ++ others) e)
-      (require-is 3 at (is-true (dec-between 1 12 (length n)) (low, few))
+      (require-is 3 at (is-true (dec-between 1 longestName (length n)) (low, few))
       (present-is (at + 1) n others (length n) g low (omega arith)
       (then-is _ (name-bytes-are n (at + 1) others good g)
       (require-is 4 at (is-true (dec-not (dec-some (sameList n) (λ y. n ≡ y) earlier (λ y _. dec-same n y))) (λ q. new (q .0) (q .1) (q .2)))
@@ -160,9 +160,9 @@ module _ (s : List ℕ) where
         let h₃ = after at (m ∷ []) G h₂ in
         let z : at + 1 + length G ≡ length s = omega (arith, ap length e, length-append F (m ∷ G)) in
         then-is _
-        (then-is _ (count-is 15 0 n (F ++ m ∷ G) e (f .few-names))
+        (then-is _ (count-is mostAtoms 0 n (F ++ m ∷ G) e (f .few-names))
         (then-is _ (names-are 1 (m ∷ G) h₁)
-        (then-is _ (count-is 64 at m G h₂ (f .few-rules))
+        (then-is _ (count-is mostRules at m G h₂ (f .few-rules))
         (then-is _ (rules-are (at + 1) [] (h₃ ∙ sym (append-nil G)))
         (require-is 6 (at + 1 + length G) (eq-eqb _ _ z) (ap (field (sheetOf names rules)) z))))))
         (require-is 7 0 (is-true (dec-le (k (setting (sheetOf names rules))) mostNegations) (f .few-negations)) refl)

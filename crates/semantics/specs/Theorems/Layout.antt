@@ -6,11 +6,11 @@ use mathlib.Core.Logic.{inl}
 use native.Mathlib.Omega.{arith}
 use lib.ListN.{length, getD}
 use Rattle.sets.specs.Decides.{dec-not}
-use Rattle.sets.specs.Lists.{_among_, nowhere, all-snoc, null, sameList, flat, upTo, among-map, dec-some, dec-same}
+use Rattle.sets.specs.Lists.{_among_, nowhere, all-snoc, null, sameList, flat, upTo, among-place, among-map, dec-some, dec-same}
 use Rattle.sets.specs.Pairwise.{Distinct, pairwise-snoc}
 use Rattle.sets.specs.Sets.{AllBelow}
 use Rattle.semantics.specs.Definitions.Reading.{field, times}
-use Rattle.semantics.specs.Definitions.Sheet.{Sheet, ruleOfMasks, byteAt, nameByte, nameByteAt, nameAt, mostAtoms, mostRules}
+use Rattle.semantics.specs.Definitions.Sheet.{Sheet, ruleOfMasks, byteAt, nameByte, nameByteAt, nameAt, mostAtoms, mostRules, longestName}
 use Rattle.semantics.specs.Definitions.Setting.{settingOf, k}
 use Rattle.semantics.specs.Definitions.Check.{mostNegations, opened}
 use Rattle.semantics.specs.Fields.{ruleFrom}
@@ -22,6 +22,12 @@ use Rattle.semantics.specs.Theorems.Accepted.{accepted-read}
 -- every number is one byte's
 abbrev pub IsBytes : List ℕ → Type 0
 IsBytes s = (b : ℕ) → b among s → b < 256
+
+-- so by their places
+pub places-bytes : (s : List ℕ) → ((i : ℕ) → byteAt s i < 256) → IsBytes s
+places-bytes s h b m =
+    let (i, _, e) = among-place s 0 m in
+    subst (λ c. c < 256) e (h i)
 
 -- "each name: a length byte 1 to 12 and that many bytes"
 abbrev pub nameBytes : List ℕ → List ℕ
@@ -78,7 +84,7 @@ module _ (s : List ℕ) where
       → GoodName v × ((y : List ℕ) → y among earlier → v ≡ y → ⊥)
   name-good earlier at next v e =
       let (t, _, d, u) = name-read s earlier at next v e in
-      let (low, high) = dec-between 1 12 (byteAt s at) .yes t in
+      let (low, high) = dec-between 1 longestName (byteAt s at) .yes t in
       let len = times-length (nameByteAt s) (byteAt s at) (at + 1) d in
       let b = times-field (nameByteAt s) (λ _ vs _. Begun vs) (λ i vs p v n h q. begun-more vs v h (name-byte-allowed vs p v n q))
       (byteAt s at) (at + 1) (record { first = λ l. absurd (omega arith); bytes = λ b m. absurd (nowhere m) }) d in

@@ -7,7 +7,7 @@ use mathlib.Core.Logic.{_⊎_, inl, ⊎-elim}
 use lib.ListN.{length, getD}
 use Rattle.sets.specs.Decides.{Decides, dec-and, dec-or, dec-eq, dec-le, dec-false, dec-iff}
 use Rattle.sets.specs.Lists.{_among_}
-use Rattle.semantics.specs.Definitions.Sheet.{between, nameByte}
+use Rattle.semantics.specs.Definitions.Sheet.{between, nameByte, longestName}
 
 -- "a-z"
 abbrev pub Letter : ℕ → Type 0
@@ -20,7 +20,7 @@ NameByte b = Letter b ⊎ (((48 ≤ b) × (b ≤ 57)) ⊎ (b ≡ 95))
 -- "a length byte 1 to 12 and that many bytes from a-z, 0-9 and `_`, the first from a-z"
 pub record GoodName (n : List ℕ) : Type 0 where
   pub not-empty : 1 ≤ length n
-  pub not-long : length n ≤ 12
+  pub not-long : length n ≤ longestName
   pub first : Letter (getD n 0 0)
   pub bytes : (b : ℕ) → b among n → NameByte b
 

@@ -4,7 +4,7 @@ use Prim.Native.Nat.{_+_, _-_, _≤_, _<_}
 use mathlib.Core.Path.{_≡_, sym, ap, _∙_}
 use mathlib.Core.List.{_∷_}
 use lib.ListN.{length, take, drop}
-use Rattle.semantics.specs.Definitions.Sheet.{byteAt}
+use Rattle.semantics.specs.Definitions.Sheet.{byteAt, longestName}
 use Rattle.semantics.specs.Fields.{nameFrom, afterName}
 use Rattle.text.proofs.Append.{nothing, and-then, same-text}
 use Rattle.text.proofs.Named.{name-there, name-long-byte, name-cut, name-long}
@@ -18,7 +18,7 @@ byte-requires c κs = search needs
 returns : tie.Need-returns
 returns c =
     let a = c .before .before .before .before .args in
-    let long : 12 < byteAt (a .s .now) (a .place) = omega (arith, c .before .byte .ensures .0) in
+    let long : longestName < byteAt (a .s .now) (a .place) = omega (arith, c .before .byte .ensures .0) in
     (same-text (sym (name-long-byte (a .s .now) (a .place) long)) (nothing (a .at) (a .out .now)), omega arith)
 
 add-from : tie.Need-add-from
@@ -60,7 +60,7 @@ returns-3 c =
     let s = a .s .now in
     let n = c .before .before .before .before .before .before .before .before .before .before .before .before .byte .ensures .0 in
     let from = a .place + 1 in
-    let few : byteAt s (a .place) ≤ 12 = omega (arith, n, c .before .before .before .before .before .before .before .before .before .before .before .if1 .left) in
+    let few : byteAt s (a .place) ≤ longestName = omega (arith, n, c .before .before .before .before .before .before .before .before .before .before .before .if1 .left) in
     let there : afterName s (a .place) ≤ length s = omega (arith, n, c .before .before .before .before .before .before .before .before .before .before .if2 .left) in
     let size : from + c .before .before .before .before .before .before .before .before .before .before .before .before .byte .result - from ≡ byteAt s (a .place) = omega (arith, n) in
     let text : take (from + c .before .before .before .before .before .before .before .before .before .before .before .before .byte .result - from) (drop from s) ≡ nameFrom s (a .place) = ap (λ m. take m (drop from s)) size in

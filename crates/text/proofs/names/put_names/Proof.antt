@@ -8,7 +8,7 @@ use lib.ListN.{length}
 use Rattle.sets.specs.Sets.{_∈?_}
 use Rattle.semantics.specs.Fields.{afterNames}
 use Rattle.text.specs.Appended.{Appended}
-use Rattle.text.specs.Names.{nameField, memberFields}
+use Rattle.text.specs.Names.{nameRoom, nameField, memberFields}
 use Rattle.text.proofs.Append.{nothing, and-then, same-text}
 use Rattle.text.proofs.Named.{no-members, member-more, place-more}
 use borrow.Author.Needs.{needs}
@@ -22,7 +22,7 @@ first s = refl
 abbrev Inv-loop : tie.InvT-loop
 Inv-loop s set from out₀ n at₀ place₀ a₀ out at place a =
     (a ≤ n) × (length out ≡ length out₀) × Appended from (memberFields s set a) out₀ out at × (place ≡ afterNames s a 1) × (place ≤ 1 + 256 * a)
-    × (at ≤ from + 13 * a)
+    × (at ≤ from + nameRoom * a)
 
 abbrev μ-loop : tie.MeasureT-loop
 μ-loop s set from out₀ n at₀ place₀ a₀ out at place a = n - a
