@@ -1,7 +1,7 @@
 -- "When an answer is an enum, a definition gives this paper's number and values for each of its cases". Assumes nothing.
 use Prim.Native.Nat.{ℕ}
 use mathlib.Core.Path.{_≡_, refl, sym, ap, _∙_}
-use Rattle.semantics.specs.Definitions.Check.{Numbers}
+use Rattle.semantics.specs.Definitions.Check.{Numbers, numbers}
 use Rattle.semantics.specs.Definitions.Returned.{Returned, accepted, refusal}
 use Rattle.semantics.specs.Definitions.Verdict as meant
 use Rattle.semantics.specs.Definitions.Listing.{Tally, tallied}
@@ -19,7 +19,7 @@ use Rattle.engine.specs.declared.Queried.the-variants as queries
 
 -- "The check of an accepted sheet answers with the numbers of atoms, of rules and of negations"
 abbrev pub checked : Checked → Returned Numbers
-checked (Accepted atoms rules negations) = accepted (record { atoms = atoms; rules = rules; negations = negations })
+checked (Accepted atoms rules negations) = accepted (numbers atoms rules negations)
 checked (Refused number place) = refusal number place
 
 -- ""empty""; ""other", with the guess found"; ""verified", with known, possible and the number of sets"

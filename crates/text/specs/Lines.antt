@@ -5,7 +5,7 @@ use mathlib.Core.List.{List, [], _∷_, _++_}
 use lib.ListN.{take, drop}
 use Rattle.semantics.specs.Definitions.Reading.{field}
 use Rattle.semantics.specs.Definitions.Sheet.{Sheet}
-use Rattle.semantics.specs.Definitions.Check.{opened, Numbers}
+use Rattle.semantics.specs.Definitions.Check.{opened}
 use Rattle.semantics.specs.Definitions.Program.{bytes, decimal}
 use Rattle.text.specs.Names.{atomsIn, memberFields}
 
@@ -26,7 +26,3 @@ viewRead s guess sets known = bytes "view" ++ 32 ∷ decimal guess ++ 32 ∷ dec
 -- `set` and its names
 abbrev pub setRead : List ℕ → (set : ℕ) → List ℕ
 setRead s set = bytes "set" ++ memberFields s set (atomsIn s) ++ 10 ∷ []
-
--- the three numbers that the check answers
-abbrev pub threeNumbers : (atoms rules negations : ℕ) → Numbers
-threeNumbers atoms rules negations = record { atoms = atoms; rules = rules; negations = negations }

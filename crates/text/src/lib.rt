@@ -10,16 +10,17 @@ pub use numbers::put_decimal;
 pub use numbers::put_field;
 ghost use Prim.Native.Nat.{_≤_};
 ghost use lib.ListN.{length};
+ghost use Rattle.semantics.specs.Definitions.Check.{numbers};
 ghost use Rattle.semantics.specs.Definitions.Listing.{tallied};
 ghost use Rattle.semantics.specs.Definitions.Program.{sheetLine, viewLine, setLine, tallyLine, refusedLine};
 ghost use Rattle.text.specs.Appended.{Counts};
-ghost use Rattle.text.specs.Lines.{Holds, HoldsFor, viewRead, setRead, threeNumbers};
+ghost use Rattle.text.specs.Lines.{Holds, HoldsFor, viewRead, setRead};
 
 // `sheet`, atoms, rules, negations.
 pub fn sheet_line(atoms: usize, rules: usize, negations: usize, out: &mut [u8]) -> usize
     requires { ⌜ 256 ≤ length (now out) ⌝ }
     ensures { λ r. ⌜ Counts r (now (out .exit)) ⌝ }
-    ensures { λ r. ⌜ Holds (sheetLine (threeNumbers atoms rules negations)) (now (out .entry)) (now (out .exit)) r ⌝ }
+    ensures { λ r. ⌜ Holds (sheetLine (numbers atoms rules negations)) (now (out .entry)) (now (out .exit)) r ⌝ }
 {
     let a = put(b"sheet", 0, out);
     let b = put_field(atoms, a, out);

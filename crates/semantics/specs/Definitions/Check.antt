@@ -29,8 +29,11 @@ pub record Numbers : Type 0 where
   pub rules : ℕ
   pub negations : ℕ
 
+abbrev pub numbers : (atoms rules negations : ℕ) → Numbers
+numbers atoms rules negations = record { atoms = atoms; rules = rules; negations = negations }
+
 abbrev pub numbersOf : Sheet → Numbers
-numbersOf x = record { atoms = atoms x; rules = length (x .rules); negations = k (setting x) }
+numbersOf x = numbers (atoms x) (length (x .rules)) (k (setting x))
 
 unfoldable pub check : List ℕ → Returned Numbers
 check s = returned (opened s) (λ x. accepted (numbersOf x))

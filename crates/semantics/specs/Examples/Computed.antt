@@ -8,7 +8,7 @@ use lib.ListN.{length}
 use Rattle.sets.specs.Lists.{every, some, keep, flat, upTo, downFrom, sameList}
 use Rattle.sets.specs.Sets.{setOf}
 use Rattle.semantics.specs.Definitions.Reading.{times}
-use Rattle.semantics.specs.Definitions.Sheet.{countAt, nameByteAt, nameAt, maskAt, ruleAt, sections}
+use Rattle.semantics.specs.Definitions.Sheet.{longestSheet, countAt, nameByteAt, nameAt, maskAt, ruleAt, sections}
 use Rattle.semantics.specs.Definitions.Reduct.{reductRule, reduct}
 use Rattle.semantics.specs.Definitions.Setting.{Setting, k}
 use Rattle.semantics.specs.Definitions.Check.{setting, opened, check}
@@ -25,7 +25,7 @@ use Rattle.semantics.specs.Definitions.Program.{digits, namesOf, printed
 use Rattle.semantics.specs.Walk.{walk}
 use Rattle.semantics.specs.Examples.Sheets.{Listed, zeros, ten, kiln, sheet-6}
 use Rattle.semantics.specs.Examples.Own.{own}
-use Rattle.semantics.specs.Examples.Limits.{answers}
+use Rattle.semantics.specs.Examples.Limits.{longest, answers}
 use Rattle.semantics.specs.Examples.Guesses.{verdicts, sets}
 use Rattle.semantics.specs.Examples.Listings.{listings, deskCalls}
 use Rattle.semantics.specs.Examples.Queries.{queries}
@@ -64,8 +64,9 @@ pub record Computed : Type 0 where
   pub queries-answered : map (λ p. queryCall (p .0) (p .1)) queries ≡ map (λ p. p .2) queries
   -- what `views` prints
   pub texts-printed : map (λ p. printed (p .0)) texts ≡ map (λ p. p .1) texts
-  -- limit cases of the sheet
+  -- limit cases of the sheet, and how long the longest is
   pub limits : map (λ p. check (p .0)) answers ≡ map (λ p. p .1) answers
+  pub longest-bytes : length longest ≡ longestSheet
 
 pub computed : Computed
 unfolding ℕ-discrete ones onesIn every some keep flat upTo downFrom sameList setOf zeros times countAt nameByteAt nameAt maskAt ruleAt sections opened check reductRule reduct reductAt smallerModel stable stableSets beliefSets guessFound verdict openedFor verdictCall beliefSetsCall steps contradicted order isWorldView covered tallyOf viewsAlong walk openedForAtom queryCall answerBy digits namesOf printed
@@ -82,4 +83,5 @@ computed = record {
   queries-answered = refl;
   texts-printed = refl;
   limits = refl;
+  longest-bytes = refl;
 }

@@ -2,19 +2,27 @@
 use Prim.Native.Nat.{ℕ, _+_}
 use mathlib.Core.List.{List, [], _∷_, _++_}
 use Rattle.sets.specs.Lists.{flat, upTo}
-use Rattle.semantics.specs.Definitions.Check.{Numbers}
+use Rattle.semantics.specs.Definitions.Check.{Numbers, numbers}
 use Rattle.semantics.specs.Definitions.Returned.{Returned, accepted, refusal}
-use Rattle.semantics.specs.Examples.Sheets.{zeros, rule, numbers}
+use Rattle.semantics.specs.Definitions.Program.{bytes}
+use Rattle.semantics.specs.Examples.Sheets.{zeros, rule}
 
 -- the number of atoms, n, and the names a, b, c and so on
 abbrev pub letters : ℕ → List ℕ
 letters n = n ∷ flat (λ i. 1 ∷ (97 + i) ∷ []) (upTo n)
+
+-- "The longest sheet has 1,221 bytes": fifteen names of twelve bytes, and 64 rules
+abbrev pub longest : List ℕ
+longest = 15 ∷ flat (λ i. 12 ∷ bytes "abcdefghijk" ++ (97 + i) ∷ []) (upTo 15) ++ 64 ∷ zeros 1024
 
 abbrev pub answers : List (List ℕ × Returned Numbers)
 answers =
     -- "the bytes end too soon": no count of atoms; no count of rules
     ([], refusal 1 0)
     ∷ (0 ∷ [], refusal 1 1)
+    -- "The longest sheet has 1,221 bytes, the shortest two."
+    ∷ (longest, accepted (numbers 15 64 0))
+    ∷ (0 ∷ 0 ∷ [], accepted (numbers 0 0 0))
     -- "15 atoms pass, 16 give 2 at place 0"
     ∷ (letters 15 ++ 0 ∷ [], accepted (numbers 15 0 0))
     ∷ (16 ∷ [], refusal 2 0)

@@ -3,9 +3,9 @@
 use Prim.Native.Nat.{ℕ, _+_, _*_}
 use mathlib.Core.List.{List, [], _∷_, _++_, map}
 use Rattle.semantics.specs.Definitions.Returned.{Returned, accepted, refusal}
-use Rattle.semantics.specs.Definitions.Listing.{Tally, View}
+use Rattle.semantics.specs.Definitions.Listing.{Tally, tallied, View}
 use Rattle.semantics.specs.Definitions.Calls.{Result}
-use Rattle.semantics.specs.Examples.Sheets.{zeros, a, sheet, rule, view, tally, kiln, sheet-3, sheet-6}
+use Rattle.semantics.specs.Examples.Sheets.{zeros, a, sheet, rule, view, kiln, sheet-3, sheet-6}
 
 abbrev result : Tally → List View → Result
 result t vs = record { tally = t; views = vs }
@@ -14,13 +14,13 @@ result t vs = record { tally = t; views = vs }
 abbrev pub listings : List (List ℕ × ℕ × Returned Result)
 listings =
     -- two views: more words than they need, as many, and one fewer; "4 times views [..] over the words", with the number of views
-    (sheet-6 .bytes, 9, accepted (result (tally 2 1 1 2 0 0) (view 1 2 2 1 ∷ view 2 1 1 1 ∷ [])))
-    ∷ (sheet-6 .bytes, 8, accepted (result (tally 2 1 1 2 0 0) (view 1 2 2 1 ∷ view 2 1 1 1 ∷ [])))
+    (sheet-6 .bytes, 9, accepted (result (tallied 2 1 1 2 0 0) (view 1 2 2 1 ∷ view 2 1 1 1 ∷ [])))
+    ∷ (sheet-6 .bytes, 8, accepted (result (tallied 2 1 1 2 0 0) (view 1 2 2 1 ∷ view 2 1 1 1 ∷ [])))
     ∷ (sheet-6 .bytes, 7, refusal 9 2)
-    ∷ (kiln .bytes, 4, accepted (result (tally 1 0 1 1 0 0) (view 0 1 1 1 ∷ [])))
+    ∷ (kiln .bytes, 4, accepted (result (tallied 1 0 1 1 0 0) (view 0 1 1 1 ∷ [])))
     ∷ (kiln .bytes, 3, refusal 9 1)
     -- no view needs no word, whatever the number of guesses
-    ∷ (sheet-3 .bytes, 0, accepted (result (tally 0 0 1 1 1 0) []))
+    ∷ (sheet-3 .bytes, 0, accepted (result (tallied 0 0 1 1 1 0) []))
     -- the sheet is judged before the words
     ∷ (0 ∷ 0 ∷ 0 ∷ [], 0, refusal 6 2)
     ∷ (sheet (a ∷ []) (rule 2 0 0 0 0 0 0 0 ∷ []), 0, refusal 5 4)

@@ -3,7 +3,7 @@ use Prim.Native.Nat.{ℕ, zero, suc, _/_, _%_}
 use mathlib.Core.List.{List, [], _∷_, _++_}
 use lib.ListN.{length}
 use Rattle.sets.specs.Lists.{flat}
-use Rattle.semantics.specs.Definitions.Check.{Numbers}
+use Rattle.semantics.specs.Definitions.Check.{Numbers, numbers}
 use Rattle.semantics.specs.Definitions.Listing.{View, Tally, tallied}
 
 -- ---- bytes, spelled out here and not by the layout of Theorems/Layout.antt
@@ -38,14 +38,8 @@ abbrev pub sheet : (names rules : List (List ℕ)) → List ℕ
 sheet names rules = length names ∷ flat (λ n. n) names ++ length rules ∷ flat (λ r. r) rules
 
 -- ---- what is known of a sheet
-abbrev pub numbers : (atoms rules negations : ℕ) → Numbers
-numbers atoms rules negations = record { atoms = atoms; rules = rules; negations = negations }
-
 abbrev pub view : (guess known possible sets : ℕ) → View
 view guess known possible sets = record { guess = guess; known = known; possible = possible; sets = sets }
-
-abbrev pub tally : (views covered ruled tested empty other : ℕ) → Tally
-tally = tallied
 
 -- the bytes, what the check answers, and the list: "Views as (guess, known, possible, sets); tally as above."
 pub record Listed : Type 0 where
@@ -61,46 +55,46 @@ entry s n vs t = record { bytes = s; numbers = n; views = vs; tally = t }
 module _ where
   -- a ← K a
   abbrev pub sheet-2 : Listed
-  sheet-2 = entry (sheet (a ∷ []) (rule 1 0 0 0 1 0 0 0 ∷ [])) (numbers 1 1 1) (view 1 0 0 1 ∷ []) (tally 1 1 0 1 0 0)
+  sheet-2 = entry (sheet (a ∷ []) (rule 1 0 0 0 1 0 0 0 ∷ [])) (numbers 1 1 1) (view 1 0 0 1 ∷ []) (tallied 1 1 0 1 0 0)
 
   -- a ← not K a
   abbrev pub sheet-3 : Listed
-  sheet-3 = entry (sheet (a ∷ []) (rule 1 0 0 0 0 1 0 0 ∷ [])) (numbers 1 1 1) [] (tally 0 0 1 1 1 0)
+  sheet-3 = entry (sheet (a ∷ []) (rule 1 0 0 0 0 1 0 0 ∷ [])) (numbers 1 1 1) [] (tallied 0 0 1 1 1 0)
 
   -- a ← not K b; b ← not K a
   abbrev pub sheet-6 : Listed
   sheet-6 =
       entry (sheet (a ∷ b ∷ []) (rule 1 0 0 0 0 2 0 0 ∷ rule 2 0 0 0 0 1 0 0 ∷ [])) (numbers 2 2 2)
-      (view 1 2 2 1 ∷ view 2 1 1 1 ∷ []) (tally 2 1 1 2 0 0)
+      (view 1 2 2 1 ∷ view 2 1 1 1 ∷ []) (tallied 2 1 1 2 0 0)
 
   -- a ← not not a
   abbrev pub sheet-7 : Listed
-  sheet-7 = entry (sheet (a ∷ []) (rule 1 0 0 1 0 0 0 0 ∷ [])) (numbers 1 1 0) (view 0 0 1 2 ∷ []) (tally 1 0 0 1 0 0)
+  sheet-7 = entry (sheet (a ∷ []) (rule 1 0 0 1 0 0 0 0 ∷ [])) (numbers 1 1 0) (view 0 0 1 2 ∷ []) (tallied 1 0 0 1 0 0)
 
   abbrev pub ten : List Listed
   ten =
       -- "Bytes 0, 0"
-      entry (0 ∷ 0 ∷ []) (numbers 0 0 0) (view 0 0 0 1 ∷ []) (tally 1 0 0 1 0 0)
+      entry (0 ∷ 0 ∷ []) (numbers 0 0 0) (view 0 0 0 1 ∷ []) (tallied 1 0 0 1 0 0)
       ∷ sheet-2
       ∷ sheet-3
       -- a ← M a
-      ∷ entry (sheet (a ∷ []) (rule 1 0 0 0 0 0 1 0 ∷ [])) (numbers 1 1 1) (view 1 1 1 1 ∷ []) (tally 1 1 0 1 0 0)
+      ∷ entry (sheet (a ∷ []) (rule 1 0 0 0 0 0 1 0 ∷ [])) (numbers 1 1 1) (view 1 1 1 1 ∷ []) (tallied 1 1 0 1 0 0)
       -- a ← not M a
-      ∷ entry (sheet (a ∷ []) (rule 1 0 0 0 0 0 0 1 ∷ [])) (numbers 1 1 1) [] (tally 0 0 1 1 1 0)
+      ∷ entry (sheet (a ∷ []) (rule 1 0 0 0 0 0 0 1 ∷ [])) (numbers 1 1 1) [] (tallied 0 0 1 1 1 0)
       ∷ sheet-6
       ∷ sheet-7
       -- a or b
-      ∷ entry (sheet (a ∷ b ∷ []) (rule 3 0 0 0 0 0 0 0 ∷ [])) (numbers 2 1 0) (view 0 0 3 2 ∷ []) (tally 1 0 0 1 0 0)
+      ∷ entry (sheet (a ∷ b ∷ []) (rule 3 0 0 0 0 0 0 0 ∷ [])) (numbers 2 1 0) (view 0 0 3 2 ∷ []) (tallied 1 0 0 1 0 0)
       -- a; ← a
-      ∷ entry (sheet (a ∷ []) (rule 1 0 0 0 0 0 0 0 ∷ rule 0 1 0 0 0 0 0 0 ∷ [])) (numbers 1 2 0) [] (tally 0 0 1 0 0 0)
+      ∷ entry (sheet (a ∷ []) (rule 1 0 0 0 0 0 0 0 ∷ rule 0 1 0 0 0 0 0 0 ∷ [])) (numbers 1 2 0) [] (tallied 0 0 1 0 0 0)
       -- c ← M a; a ← b; b ← a
       ∷ entry (sheet (a ∷ b ∷ c ∷ []) (rule 4 0 0 0 0 0 1 0 ∷ rule 1 2 0 0 0 0 0 0 ∷ rule 2 1 0 0 0 0 0 0 ∷ [])) (numbers 3 3 1)
-      (view 0 0 0 1 ∷ []) (tally 1 0 0 2 0 1)
+      (view 0 0 0 1 ∷ []) (tallied 1 0 0 2 0 1)
       ∷ []
 
 -- the example of `views`: glaze or bisque; ← not K glaze
 abbrev pub kiln : Listed
-kiln = entry bytes (numbers 2 2 1) (view 0 1 1 1 ∷ []) (tally 1 0 1 1 0 0)
+kiln = entry bytes (numbers 2 2 1) (view 0 1 1 1 ∷ []) (tallied 1 0 1 1 0 0)
   where
     glaze : List ℕ
     glaze = 5 ∷ 103 ∷ 108 ∷ 97 ∷ 122 ∷ 101 ∷ []

@@ -1,13 +1,9 @@
 -- Document 01, "Query and program": what `views` prints for known sheets.
-use Prim.Native.Nat.{ℕ, _+_}
+use Prim.Native.Nat.{ℕ}
 use mathlib.Core.List.{List, [], _∷_, _++_}
-use Rattle.sets.specs.Lists.{flat, upTo}
 use Rattle.semantics.specs.Definitions.Program.{bytes}
 use Rattle.semantics.specs.Examples.Sheets.{zeros, a, b, sheet, rule, kiln, sheet-3, sheet-6, sheet-7}
-
--- "The longest sheet has 1,221 bytes": fifteen names of twelve bytes, and 64 rules
-abbrev longest : List ℕ
-longest = 15 ∷ flat (λ i. 12 ∷ bytes "abcdefghijk" ++ (97 + i) ∷ []) (upTo 15) ++ 64 ∷ zeros 1024
+use Rattle.semantics.specs.Examples.Limits.{longest}
 
 -- the input, and the text printed
 abbrev pub texts : List (List ℕ × List ℕ)
