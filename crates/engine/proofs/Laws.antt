@@ -10,13 +10,14 @@ use lib.Pow.{pow-mono}
 use Rattle.sets.specs.Lists.{every}
 use Rattle.sets.specs.Sets.{_∈?_}
 use Rattle.semantics.specs.Definitions.Reading.{Reading, field}
-use Rattle.semantics.specs.Definitions.Sheet.{Sheet}
+use Rattle.semantics.specs.Definitions.Sheet.{Sheet, byteAt}
 use Rattle.semantics.specs.Definitions.Setting.{Setting, k}
-use Rattle.semantics.specs.Definitions.Check.{mostNegations, setting, opened}
+use Rattle.semantics.specs.Definitions.Check.{mostNegations, setting, opened, check}
 use Rattle.semantics.specs.Definitions.Returned.{Returned, accepted, refusal, returned, answer, written, afterwards}
 use Rattle.semantics.specs.Definitions.Listing.{Tally, View}
 use Rattle.semantics.specs.Definitions.Calls.{openedBelow, openedFor, openedForAtom, verdictCall, setsInto, beliefSetsCall, Result, resultOf, resultInto, recordsNeed, listCall, recordsOf, queryCall}
 use Rattle.semantics.specs.Definitions.Query.{Yes, No, Open, answerBy}
+use Rattle.semantics.specs.Theorems.Layout.{places-bytes}
 use Rattle.semantics.specs.Theorems.Returned.{fits-limited, short-limited}
 use Rattle.semantics.specs.Theorems.Below.{BelowOf, opened-below, refused-below}
 use Rattle.semantics.specs.Theorems.Calls.{verdict-is, sets-given}
@@ -29,11 +30,13 @@ use Rattle.guess.specs.Accepted.{few-opened, few-negations}
 use Rattle.verdict.specs.declared.Verdict.{Verdict as Answer}
 use Rattle.verdict.specs.Verdicts.{verdictOf, BeliefSets, VerdictOn}
 use Rattle.listing.specs.Walks.{ListingOf}
+use Rattle.engine.specs.declared.Checked.{Checked}
 use Rattle.engine.specs.declared.Judged.{Judged}
 use Rattle.engine.specs.declared.Counted.{Counted}
 use Rattle.engine.specs.declared.Listed.{Listed}
 use Rattle.engine.specs.declared.Queried.{Queried}
-use Rattle.engine.specs.Answers.{judged, counted, listed, queried}
+use Rattle.engine.specs.Answers.{checked, judged, counted, listed, queried}
+use Rattle.engine.specs.Demand1.{CheckDemand, check-demand}
 use Rattle.engine.specs.Demand2.{VerdictDemand, verdict-demand, SetsDemand, sets-demand}
 use Rattle.engine.specs.Demand3.{ListingDemand, listing-demand}
 use Rattle.engine.specs.Queries.{QueryDemand, query-demand}
@@ -186,6 +189,9 @@ module _ {A B : Type 0} (of : A → B) (words : A → List ℕ) {r : Returned A}
   filled e says d = (ap accepted (sym says) ∙ sym (ap (answer of) e), d ∙ sym (ap (λ q. afterwards words q buffer) e))
 
 -- ---- what the calls ensure, with the demands that follow
+pub check-met : (sheet : List ℕ) → ((i : ℕ) → byteAt sheet i < 256) → (r : Checked) → checked r ≡ check sheet → (checked r ≡ check sheet) × CheckDemand sheet r
+check-met sheet small r e = (e, check-demand sheet (places-bytes sheet small) r e)
+
 pub verdict-met : (sheet : List ℕ) (g : ℕ) (v : Judged) → judged v ≡ verdictCall sheet g → (judged v ≡ verdictCall sheet g) × VerdictDemand sheet g v
 verdict-met sheet g v e = (e, verdict-demand sheet g v e)
 

@@ -20,6 +20,7 @@ ghost use Rattle.semantics.specs.Definitions.Returned.{answer, afterwards};
 ghost use Rattle.semantics.specs.Definitions.Calls.{openedFor, openedForAtom, verdictCall, beliefSetsCall, listCall, recordsOf, queryCall};
 ghost use Rattle.sheet.specs.Opened.{openedOf};
 ghost use Rattle.engine.specs.Answers.{checked, judged, counted, listed, queried};
+ghost use Rattle.engine.specs.Demand1.{CheckDemand};
 ghost use Rattle.engine.specs.Demand2.{VerdictDemand, SetsDemand};
 ghost use Rattle.engine.specs.Demand3.{ListingDemand};
 ghost use Rattle.engine.specs.Queries.{QueryDemand};
@@ -89,6 +90,7 @@ pub enum Queried {
 // Checks a sheet: refusals 1 to 7.
 pub fn check(sheet: &[u8]) -> Checked
     ensures { λ r. ⌜ checked r ≡ checkOf (now (sheet .entry)) ⌝ }
+    ensures { λ r. ⌜ CheckDemand (now (sheet .entry)) r ⌝ }
 {
     match open(sheet) {
         Opened::Accepted(x) => Checked::Accepted {

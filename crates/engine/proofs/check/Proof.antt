@@ -1,4 +1,5 @@
 -- `engine::check` meets its contract. Assumes nothing.
+use native.Mathlib.Omega.{arith}
 use borrow.Author.Needs.{needs}
 use mathlib.Core.Path.{_≡_, sym, ap, _∙_}
 use Prim.Native.Nat.{ℕ}
@@ -9,6 +10,7 @@ use Rattle.semantics.specs.Definitions.Returned.{Returned, accepted, refusal, r
 use Rattle.sheet.specs.declared.Contents.{Contents}
 use Rattle.sheet.specs.declared.Opened.the-variants.{Accepted, Refused}
 use Rattle.sheet.specs.Opened.{openedOf, opened-as, opened-refused}
+use Rattle.engine.proofs.Laws.{check-met}
 use Rattle.engine.proofs.check.Statement.{statement}
 use Rattle.engine.proofs.check.Tie as tie
 
@@ -38,14 +40,16 @@ enum-known-number c = search needs
 returns : tie.Need-returns
 unfolding check
 returns c =
-    of-accepted (opened (c .before .before .before .before .before .args .sheet .now))
-    (sym (c .before .before .before .«open» .ensures) ∙ c .before .x .given .1)
+    let sheet = c .before .before .before .before .before .args .sheet .now in
+    check-met sheet (λ i. omega (arith, c .before .before .before .before .shared-slice-known .given i)) _
+    (of-accepted (opened sheet) (sym (c .before .before .before .«open» .ensures) ∙ c .before .x .given .1))
 
 returns-2 : tie.Need-returns-2
 unfolding check
 returns-2 c =
-    of-refused (opened (c .before .before .before .before .before .args .sheet .now))
-    (sym (c .before .before .before .«open» .ensures) ∙ c .before .number .given .1)
+    let sheet = c .before .before .before .before .before .args .sheet .now in
+    check-met sheet (λ i. omega (arith, c .before .before .before .before .shared-slice-known .given i)) _
+    (of-refused (opened sheet) (sym (c .before .before .before .«open» .ensures) ∙ c .before .number .given .1))
 
 pub check-spec : {M : Type 1} → statement M
 check-spec = tie.close (tie.spec open-requires enum-known-x enum-known-number returns returns-2)

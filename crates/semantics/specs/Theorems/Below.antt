@@ -2,20 +2,18 @@
 -- nothing.
 use Prim.Native.Nat.{ℕ, _≤_, _<_}
 use mathlib.Core.Path.{_≡_, refl, sym, ap, _∙_, subst}
-use mathlib.Core.Bool.{Bool, true, false}
 use mathlib.Core.List.{List}
 use mathlib.Core.Logic.{_↔_, _⊎_, inl, inr, ⊎-elim}
-use native.Mathlib.Omega.{arith}
 use borrow.Author.Tests.{ltb-true, ltb-false, lt-ltb, le-ltb}
 use lib.Dec.{ltb}
-use Rattle.semantics.specs.Definitions.Reading.{Reading, field, refused, _then_, require}
+use Rattle.semantics.specs.Definitions.Reading.{field, refused}
 use Rattle.semantics.specs.Definitions.Sheet.{Sheet}
 use Rattle.semantics.specs.Definitions.Setting.{Setting}
 use Rattle.semantics.specs.Definitions.Check.{setting, opened}
 use Rattle.semantics.specs.Definitions.Returned.{Returned, accepted, returned}
 use Rattle.semantics.specs.Definitions.Calls.{openedBelow}
 use Rattle.semantics.specs.Theorems.Returned.{SheetOf, was-accepted}
-use Rattle.semantics.specs.Theorems.Reading.{then-field, require-field, field-same}
+use Rattle.semantics.specs.Theorems.Reading.{then-field, require-field, field-same, require-refused}
 
 -- the bytes are an accepted sheet, s is its setting, and n is below the bound
 pub record BelowOf (bound : Setting → ℕ) (sheet : List ℕ) (n : ℕ) (s : Setting) : Type 0 where
@@ -50,19 +48,9 @@ module _ (bound : Setting → ℕ) (number : ℕ) (sheet : List ℕ) (n : ℕ) w
 
   -- refused: the sheet is, or the number is not below the bound
   pub refused-below : (m place : ℕ) → openedBelow bound number sheet n ≡ refused m place ↔ ((opened sheet ≡ refused m place) ⊎ NotBelow m place)
-  refused-below m place = (
-    λ e. from (opened sheet) refl e,
-    ⊎-elim (λ d. rw d) (λ p. let (x, end, d, h, e, q) = p in rw (d, le-ltb n (bound (setting x)) h, e, q)),
-  )
-    where
-      judged : (x : Sheet) (end : ℕ) (b : Bool) → ltb n (bound (setting x)) ≡ b → require b number 0 (field x end) ≡ refused m place
-          → (bound (setting x) ≤ n) × (m ≡ number) × (place ≡ 0)
-      judged x end true d e = let z : _≡_ {A = ℕ} 0 1 = cc in absurd (omega arith)
-      judged x end false d e = (ltb-false n (bound (setting x)) d, cc, cc)
-
-      from : (r : Reading Sheet) → opened sheet ≡ r → (r then λ x end. require (ltb n (bound (setting x))) number 0 (field x end)) ≡ refused m place
-          → (opened sheet ≡ refused m place) ⊎ NotBelow m place
-      from (field x end) d e =
-          let (h, f, q) = judged x end (ltb n (bound (setting x))) refl e in
-          inr (x, end, d, h, f, q)
-      from (refused f q) d e = inl (d ∙ e)
+  refused-below m place =
+      let both = require-refused (opened sheet) (λ x. ltb n (bound (setting x))) number 0 m place in (
+        λ e. ⊎-elim inl (λ h. inr (h .value, h .next, h .yields, ltb-false n (bound (setting (h .value))) (h .fails), h .numbered, h .placed)) (both .0 e),
+        ⊎-elim (λ d. both .1 (inl d)) (λ (x, end, d, h, e, q).
+            both .1 (inr (record { value = x; next = end; yields = d; fails = le-ltb n (bound (setting x)) h; numbered = e; placed = q }))),
+      )

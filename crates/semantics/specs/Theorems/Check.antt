@@ -1,40 +1,53 @@
--- What the check answers: it accepts exactly the layouts of names and rules that fit, with their numbers, and its refusals are 1 to 7, each
--- at a place of at most 1,221. Assumes nothing.
-use Prim.Native.Nat.{ℕ, _≤_}
-use mathlib.Core.Path.{_≡_, refl, ap, _∙_}
+-- What the check answers: it accepts exactly the layouts of names and rules that fit, with their numbers; it refuses exactly what the reading
+-- of the sections refuses, and k over 12; and its refusals are 1 to 7, each at a place of at most 1,221, the length of the longest sheet.
+-- Assumes nothing.
+use Prim.Native.Nat.{ℕ, _≤_, _<_}
+use mathlib.Core.Path.{_≡_, refl, sym, ap, _∙_}
+use mathlib.Core.Bool.{Bool}
 use mathlib.Core.List.{List, map}
-use mathlib.Core.Logic.{_↔_}
+use mathlib.Core.Logic.{_↔_, _⊎_, inl, inr, ⊎-elim}
+use native.Mathlib.Omega.{arith}
+use borrow.Author.Tests.{leb-false, lt-leb}
+use lib.Dec.{leb}
 use lib.ListN.{length}
-use Rattle.semantics.specs.Definitions.Sheet.{atoms, ruleOfMasks}
+use Rattle.semantics.specs.Definitions.Reading.{field, refused}
+use Rattle.semantics.specs.Definitions.Sheet.{Sheet, ruleOfMasks, longestSheet, sections}
 use Rattle.semantics.specs.Definitions.Setting.{Setting, settingOf, k}
-use Rattle.semantics.specs.Definitions.Check.{setting, opened, Numbers, numbersOf, check}
+use Rattle.semantics.specs.Definitions.Check.{mostNegations, setting, opened, Numbers, numbers, numbersOf, check}
 use Rattle.semantics.specs.Definitions.Returned.{accepted, refusal, returned}
+use Rattle.semantics.specs.Theorems.Reading.{require-refused}
 use Rattle.semantics.specs.Theorems.Returned.{SheetOf, was-accepted, reading-refused}
-use Rattle.semantics.specs.Theorems.Places.{refusal-place, refusal-number}
+use Rattle.semantics.specs.Theorems.Places.{refusal-place, refusal-number, sections-number}
 use Rattle.semantics.specs.Theorems.Layout.{IsBytes, sheetBytes, Fits}
 use Rattle.semantics.specs.Theorems.Fitting.{fits-accepted}
 use Rattle.semantics.specs.Theorems.Exact.{accepted-exactly}
 
-pub check-accepts : (names rules : List (List ℕ)) → Fits names rules
-    → check (sheetBytes names rules)
-    ≡ accepted (record { atoms = length names; rules = length rules; negations = k (settingOf (length names) (map ruleOfMasks rules)) })
+-- ---- accepted
+-- "the numbers of atoms, of rules and of negations", of names and rules
+abbrev pub numbersFor : (names rules : List (List ℕ)) → Numbers
+numbersFor names rules = numbers (length names) (length rules) (k (settingOf (length names) (map ruleOfMasks rules)))
+
+-- the bytes are the layout of names and rules that fit, and n are the numbers of these
+pub record LaidOut (s : List ℕ) (n : Numbers) : Type 0 where
+  pub names : List (List ℕ)
+  pub rules : List (List ℕ)
+  pub fit : Fits names rules
+  pub layout : s ≡ sheetBytes names rules
+  pub counted : n ≡ numbersFor names rules
+
+pub check-accepts : (names rules : List (List ℕ)) → Fits names rules → check (sheetBytes names rules) ≡ accepted (numbersFor names rules)
 unfolding check
 check-accepts names rules f = ap (λ r. returned r (λ x. accepted (numbersOf x))) (fits-accepted names rules f)
 
-pub check-refuses : (s : List ℕ) (number place : ℕ) → check s ≡ refusal number place → (1 ≤ number) × (number ≤ 7) × (place ≤ 1221)
+pub check-exactly : (s : List ℕ) → IsBytes s → (n : Numbers) → check s ≡ accepted n ↔ LaidOut s n
 unfolding check
-check-refuses s number place e =
-    let r = reading-refused numbersOf (opened s) e in
-    let (low, high) = refusal-number s number place r in
-    (low, high, refusal-place s number place r)
-
-pub check-exactly : (s : List ℕ) → IsBytes s
-    → ((n : Numbers) × (check s ≡ accepted n))
-    ↔ ((names : List (List ℕ)) × (rules : List (List ℕ)) × Fits names rules × (s ≡ sheetBytes names rules))
-unfolding check
-check-exactly s small = (
-  λ p. accepted-exactly s small .0 (let (x, end, d, _) = was-accepted (λ x. accepted (numbersOf x)) (opened s) (p .1) in (x, end, d)),
-  λ p. let (names, rules, f, e) = p in (_, ap check e ∙ check-accepts names rules f),
+check-exactly s small n = (
+  λ e.
+      let (x, end, d, f) = was-accepted (λ x. accepted (numbersOf x)) (opened s) e in
+      let (names, rules, fits, laid, same, _) = accepted-exactly s small x end .0 d in
+      let told : n ≡ numbersOf x = cc in
+      record { names = names; rules = rules; fit = fits; layout = laid; counted = told ∙ ap numbersOf same },
+  λ l. ap check (l .layout) ∙ check-accepts (l .names) (l .rules) (l .fit) ∙ ap accepted (sym (l .counted)),
 )
 
 -- the sheet that was accepted
@@ -43,3 +56,58 @@ unfolding check
 checked-sheet s e =
     let (x, end, d, _) = was-accepted (λ x. accepted (numbersOf x)) (opened s) e in
     (setting x, record { says = x; end = end; accepts = d; means = refl })
+
+-- ---- refused
+module _ (s : List ℕ) (number place : ℕ) where
+  -- "7, 0" where "k over 12"
+  pub record OverNegations : Type 0 where
+    pub says : Sheet
+    pub end : ℕ
+    pub reads : sections s ≡ field says end
+    pub over : mostNegations < k (setting says)
+    pub seven : number ≡ 7
+    pub at-0 : place ≡ 0
+
+  -- 1 to 6 where the reading of the sections ends so, or 7 after it
+  abbrev pub Refuses : Type 0
+  Refuses = (sections s ≡ refused number place) ⊎ OverNegations
+
+  pub opened-refuses : opened s ≡ refused number place ↔ Refuses
+  unfolding opened
+  opened-refuses =
+      let few : Sheet → Bool = λ x. leb (k (setting x)) mostNegations in
+      let both = require-refused (sections s) few 7 0 number place in (
+        λ e. ⊎-elim inl (λ h. inr (record {
+          says = h .value;
+          end = h .next;
+          reads = h .yields;
+          over = leb-false (k (setting (h .value))) mostNegations (h .fails);
+          seven = h .numbered;
+          at-0 = h .placed;
+        })) (both .0 e),
+        ⊎-elim (λ e. both .1 (inl e)) (λ h. both .1 (inr (record {
+          value = h .says;
+          next = h .end;
+          yields = h .reads;
+          fails = lt-leb (k (setting (h .says))) mostNegations (h .over);
+          numbered = h .seven;
+          placed = h .at-0;
+        }))),
+      )
+
+  check-opened : check s ≡ refusal number place ↔ (opened s ≡ refused number place)
+  unfolding check
+  check-opened = (reading-refused numbersOf (opened s), ap (λ r. returned r (λ x. accepted (numbersOf x))))
+
+  -- and 7 for nothing else
+  pub seven-over : number ≡ 7 → Refuses → OverNegations
+  seven-over e = ⊎-elim (λ d. absurd (omega (arith, sections-number s number place d))) (λ h. h)
+
+  pub check-refused : check s ≡ refusal number place ↔ Refuses
+  check-refused = (λ e. opened-refuses .0 (check-opened .0 e), λ h. check-opened .1 (opened-refuses .1 h))
+
+  pub check-refuses : check s ≡ refusal number place → (1 ≤ number) × (number ≤ 7) × (place ≤ longestSheet)
+  check-refuses e =
+      let r = check-opened .0 e in
+      let (low, high) = refusal-number s number place r in
+      (low, high, refusal-place s number place r)

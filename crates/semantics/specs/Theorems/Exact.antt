@@ -1,6 +1,6 @@
--- A list of bytes is accepted exactly when it is the layout of names and rules that fit. Assumes nothing.
+-- A list of bytes is accepted exactly when it is the layout of names and rules that fit, and then it says these. Assumes nothing.
 use Prim.Native.Nat.{ℕ, _<_}
-use mathlib.Core.Path.{_≡_, ap, _∙_}
+use mathlib.Core.Path.{_≡_, sym, ap, ap₂, _∙_}
 use mathlib.Core.List.{List, _∷_}
 use mathlib.Core.Logic.{_↔_, ⊎-elim}
 use native.Mathlib.Omega.{arith}
@@ -11,17 +11,26 @@ use Rattle.sets.specs.Lists.{_among_, nowhere, all-cons, all-append, all-flat, 
 use Rattle.semantics.specs.Definitions.Reading.{field}
 use Rattle.semantics.specs.Definitions.Sheet.{Sheet}
 use Rattle.semantics.specs.Definitions.Check.{opened}
+use Rattle.semantics.specs.Theorems.Reading.{field-same}
 use Rattle.semantics.specs.Theorems.Names.{NameByte}
+use Rattle.semantics.specs.Theorems.Accepted.{accepted-lies}
 use Rattle.semantics.specs.Theorems.Layout.{IsBytes, nameBytes, maskBytes, ruleBytes, sheetBytes, sheetOf, Fits, accepted-fits}
 use Rattle.semantics.specs.Theorems.Bytes.{accepted-bytes}
 use Rattle.semantics.specs.Theorems.Fitting.{fits-accepted}
 
 pub accepted-exactly : (s : List ℕ) → IsBytes s
-    → ((x : Sheet) × (end : ℕ) × (opened s ≡ field x end))
-    ↔ ((names : List (List ℕ)) × (rules : List (List ℕ)) × Fits names rules × (s ≡ sheetBytes names rules))
-accepted-exactly s small = (
-  λ p. let (x, end, e) = p in (x .names, x .rules, accepted-fits s x end e, accepted-bytes s small x end e),
-  λ p. let (names, rules, f, e) = p in (sheetOf names rules, length (sheetBytes names rules), ap opened e ∙ fits-accepted names rules f),
+    → (x : Sheet) (end : ℕ) → opened s ≡ field x end
+    ↔ ((names : List (List ℕ)) × (rules : List (List ℕ)) × Fits names rules × (s ≡ sheetBytes names rules) × (x ≡ sheetOf names rules)
+    × (end ≡ length s))
+accepted-exactly s small x end = (
+  λ e.
+      let fits = accepted-fits s x end e in
+      let laid = accepted-bytes s small x end e in
+      let (same, _) = field-same (sym (ap opened laid ∙ fits-accepted (x .names) (x .rules) fits) ∙ e) in
+      (x .names, x .rules, fits, laid, same, accepted-lies s x end e .ends),
+  λ p.
+      let (names, rules, f, e, same, ends) = p in
+      ap opened e ∙ fits-accepted names rules f ∙ ap₂ field (sym same) (sym (ends ∙ ap length e)),
 )
 
 -- ---- a layout has bytes only

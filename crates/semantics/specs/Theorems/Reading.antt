@@ -1,8 +1,10 @@
--- What a reading that yields a field has come through: its steps, its checks, and the same step several times. Assumes nothing.
+-- What a reading that yields a field has come through: its steps, its checks, and the same step several times; and what refuses a reading
+-- with one check more. Assumes nothing.
 use Prim.Native.Nat.{ℕ, zero, suc, _+_}
-use mathlib.Core.Path.{_≡_, refl, subst, _∙_}
+use mathlib.Core.Path.{_≡_, refl, sym, ap, subst, _∙_}
 use mathlib.Core.Bool.{Bool, true, false}
 use mathlib.Core.List.{List, [], _∷_, _++_}
+use mathlib.Core.Logic.{_↔_, _⊎_, inl, inr, ⊎-elim}
 use native.Mathlib.Omega.{arith}
 use lib.ListN.{length, length-append}
 use Rattle.semantics.specs.Definitions.Reading.{Reading, field, refused, _then_, require, times}
@@ -20,6 +22,35 @@ module _ {A : Type 0} where
       → (b ≡ true) × (rest ≡ field v next)
   require-field true number place rest e = (refl, e)
   require-field false number place rest e = let z : _≡_ {A = ℕ} 0 1 = cc in absurd (omega arith)
+
+  -- the check is not passed after the reading r, and is refused so
+  pub record NotPassed (r : Reading A) (passed : A → Bool) (number place : ℕ) (n p : ℕ) : Type 0 where
+    pub value : A
+    pub next : ℕ
+    pub yields : r ≡ field value next
+    pub fails : passed value ≡ false
+    pub numbered : n ≡ number
+    pub placed : p ≡ place
+
+  -- refused: the reading is, or the check after it is not passed
+  pub require-refused : (r : Reading A) (passed : A → Bool) (number place n p : ℕ)
+      → (r then λ value next. require (passed value) number place (field value next)) ≡ refused n p
+      ↔ ((r ≡ refused n p) ⊎ NotPassed r passed number place n p)
+  require-refused (field v next) passed number place n p = (
+    λ e. inr (go (passed v) refl e),
+    ⊎-elim (λ e. let z : _≡_ {A = ℕ} 0 1 = cc in absurd (omega arith)) (λ h. back h),
+  )
+    where
+      go : (b : Bool) → passed v ≡ b → require b number place (field v next) ≡ refused n p → NotPassed (field v next) passed number place n p
+      go true d e = let z : _≡_ {A = ℕ} 0 1 = cc in absurd (omega arith)
+      go false d e = record { value = v; next = next; yields = refl; fails = d; numbered = cc; placed = cc }
+
+      back : NotPassed (field v next) passed number place n p → require (passed v) number place (field v next) ≡ refused n p
+      back h = rw (h .numbered, h .placed, ap passed (sym (field-same (h .yields) .0)) ∙ h .fails)
+  require-refused (refused m q) passed number place n p = (
+    inl,
+    ⊎-elim (λ e. e) (λ h. let d = h .yields in let z : _≡_ {A = ℕ} 0 1 = cc in absurd (omega arith)),
+  )
 
   -- what each step keeps, of the number of fields, the fields and the place, holds where all have been taken
   module _ (step : List A → ℕ → Reading A) (P : ℕ → List A → ℕ → Type 0)

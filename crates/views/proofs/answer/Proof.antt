@@ -18,7 +18,7 @@ print-sheet-requires c κs = search needs
 listing-requires : tie.Need-listing-requires
 listing-requires c κs =
     let a = c .before .before .before .before .before .before .args in
-    checked-sheet (a .sheet .now) (sym (c .before .before .before .before .check .ensures) ∙ ap checked (c .before .before .atoms .given .1))
+    checked-sheet (a .sheet .now) (sym (c .before .before .before .before .check .ensures .0) ∙ ap checked (c .before .before .atoms .given .1))
 
 enum-known-number : tie.Need-enum-known-number
 enum-known-number c = search needs
