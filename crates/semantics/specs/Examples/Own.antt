@@ -1,5 +1,5 @@
--- Sheets of our own, whose lists see single changes of the definitions that document 01's sheets do not see. After each sheet's rules stands
--- what no other sheet here sees. docs/DECISIONS.md, "Known lists", says how the lists were found.
+-- Sheets of our own, whose lists tell apart readings of document 01 that its own sheets do not. After each sheet's rules stands the
+-- reading that no other sheet here tells apart. docs/DECISIONS.md, "Known lists".
 use mathlib.Core.List.{List, [], _∷_}
 use Rattle.semantics.specs.Definitions.Check.{numbers}
 use Rattle.semantics.specs.Definitions.Listing.{tallied}

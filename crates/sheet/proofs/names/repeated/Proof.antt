@@ -3,17 +3,13 @@ use mathlib.Core.Bool.{Bool, true, false}
 use mathlib.Core.List.{List}
 use mathlib.Core.Path.{_≡_, refl, sym, _∙_}
 use native.Mathlib.Omega.{arith}
-use Prim.Native.Nat.{ℕ, zero, suc, _+_, _-_, _≤_, _<_}
+use Prim.Native.Nat.{ℕ, _+_, _-_, _≤_, _<_}
 use Rattle.sets.specs.Lists.{some, sameList}
 use Rattle.semantics.specs.Fields.{nameFrom, afterName, namesFrom, afterNames}
+use Rattle.semantics.specs.Theorems.Fields.{afterNames-rises}
 use Rattle.sheet.proofs.Laws.{one-left}
 use Rattle.sheet.proofs.names.repeated.Statement.{statement}
 use Rattle.sheet.proofs.names.repeated.Tie as tie
-
-no-earlier : (s : List ℕ) (n p : ℕ) → p ≤ afterNames s n p
-unfolding afterNames
-no-earlier s zero p = omega arith
-no-earlier s (suc n) p = omega (arith, no-earlier s n (afterName s p))
 
 -- one of the n names is the name at q, with i of them passed and the next one at p
 abbrev found : List ℕ → (n q i p : ℕ) → Bool
@@ -26,7 +22,10 @@ module _ (s : List ℕ) (n q i p : ℕ) where
   ends h = rw (one-left n i h)
 
   within : i < n → afterNames s (n - i) p ≤ q → afterName s p ≤ q
-  within h l = omega (arith, ends h, no-earlier s (n - (i + 1)) (afterName s p))
+  unfolding afterNames
+  within h l =
+      let rises : afterName s p ≤ afterNames s (n - (i + 1)) (afterName s p) = afterNames-rises s 0 (n - (i + 1)) (afterName s p) (omega arith) in
+      omega (arith, ends h, rises)
 
   is-it : i < n → sameList (nameFrom s q) (nameFrom s p) ≡ true → found s n q i p ≡ true
   unfolding namesFrom some
