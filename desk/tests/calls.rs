@@ -8,7 +8,7 @@ use desk::trial::known::{kiln, known};
 use desk::trial::programs::output;
 use desk::trial::random::{seed, Random};
 use desk::trial::sheets::{random_sheet, Shape};
-use desk::trial::write::{hex, lettered, rule, HEAD, NOT_NOT};
+use desk::trial::write::{choices, hex, lettered};
 
 const CHECK: u8 = 0;
 const VERDICT: u8 = 1;
@@ -255,11 +255,10 @@ fn kiln_requests() -> Vec<Request> {
 /// fill; then short ones, in which nothing of those is left.
 #[test]
 fn the_largest_requests() {
-    let choices: Vec<_> = (0..15).map(|atom| rule(&[(HEAD, 1 << atom), (NOT_NOT, 1 << atom)])).collect();
     let long = [kiln(), vec![0; 2_048 - kiln().len()]].concat();
     let request =
         |sheet: &[u8], words| Request { call: BELIEF_SETS, sheet: sheet.to_vec(), argument: 0, words, fill: 3 };
-    let sheet = lettered(15, &choices);
+    let sheet = lettered(15, &choices(0..15));
     let mut requests: Vec<Request> = [33_000, 32_768, 32_767].map(|words| request(&sheet, words)).to_vec();
     requests.push(request(&long, 33_000));
     requests.extend(kiln_requests());

@@ -4,7 +4,7 @@ use desk::archive;
 use desk::refusal::Refusal;
 use desk::solver::calls::{list_code, open, Opened};
 use desk::trial::damage::{damaged, too_many_negations};
-use desk::trial::known::{kiln, known};
+use desk::trial::known::{kiln, known, titled};
 use desk::trial::large::named;
 use desk::trial::random::{seed, Random};
 use desk::trial::sheets::{random_names, random_sheet, Shape};
@@ -149,7 +149,6 @@ fn named_sheets() {
 /// One sheet for each refusal of the desk call, by hand: the number, and every byte kept whatever the buffer's length.
 #[test]
 fn refused_calls_keep_every_byte() {
-    let two_views = known().into_iter().find(|known| known.views.len() == 2).expect("sheet 6").sheet;
     let thirteen = lettered(13, &[rule(&[(K, 0x1FFF)])]);
     let refused: [(u32, Vec<u8>); 8] = [
         (1 << 16 | 2, vec![1, 1]),
@@ -159,7 +158,7 @@ fn refused_calls_keep_every_byte() {
         (5 << 16 | 4, lettered(1, &[rule(&[(HEAD, 2)])])),
         (6 << 16 | 2, vec![0, 0, 0]),
         (7 << 16, thirteen),
-        (9 << 16 | 2, two_views),
+        (9 << 16 | 2, titled("6:").sheet),
     ];
     for (code, sheet) in refused {
         for length in 0..28 {
@@ -181,9 +180,10 @@ fn limit_sheets() {
     assert_eq!(seen.sheets[7], 6);
 }
 
-/// Random rules over the atoms, of which these stand under K and under M; the last rule, a tautology, names them all.
+/// Random rules over the atoms, of which these stand under K and under M; the first rule, which is always true, names
+/// all of these.
 fn limit_sheet(random: &mut Random, known: u16, possible: u16) -> Vec<u8> {
-    let mut rules = vec![rule(&[(HEAD, 1), (PLAIN, 1), (K, known), (M, possible)])];
+    let mut rules = vec![names_negations(known, possible)];
     while rules.len() < 64 {
         let bit = |random: &mut Random| 1 << random.below(15);
         let subjective = random.pick(&[K, NOT_K, M, NOT_M, PLAIN]);

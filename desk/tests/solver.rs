@@ -4,7 +4,7 @@ use desk::refusal::Refusal;
 use desk::solver::calls::{open, Answer, Opened};
 use desk::solver::lines::lines;
 use desk::solver::listing::Verdict;
-use desk::trial::known::{kiln, known, KILN_LINES};
+use desk::trial::known::{kiln, known, titled, KILN_LINES};
 use desk::trial::write::*;
 
 fn refusal(sheet: &[u8]) -> (u32, u32) {
@@ -13,8 +13,7 @@ fn refusal(sheet: &[u8]) -> (u32, u32) {
 }
 
 fn sheet_of(title: &str) -> Opened {
-    let known = known().into_iter().find(|known| known.title.starts_with(title)).expect("a known sheet");
-    open(&known.sheet).expect("a known sheet is accepted")
+    open(&titled(title).sheet).expect("a known sheet is accepted")
 }
 
 #[test]

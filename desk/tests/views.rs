@@ -1,14 +1,16 @@
-//! The program `views`: lines by hand from document 01, refusals, long and slow inputs, and the second solver's lines.
+//! The program `views`: lines by hand from document 01, the sheets to try, refusals, long and slow inputs, and the second
+//! solver's lines.
 
 use desk::solver::lines::lines;
 use desk::trial::damage::{damaged, too_many_negations};
-use desk::trial::known::{kiln, known, KILN_LINES};
+use desk::trial::known::{kiln, titled, KILN_LINES};
 use desk::trial::programs::{feed, output, start};
 use desk::trial::random::{seed, Random};
 use desk::trial::sheets::{random_sheet, Shape};
 use desk::trial::write::*;
 use std::fs;
 use std::io::{Read, Write};
+use std::path::PathBuf;
 use std::thread;
 use std::time::Duration;
 
@@ -37,8 +39,48 @@ fn known_sheets() {
         ("10:", "sheet 3 3 1\nview 0 1\nset\ntally 1 0 0 2 0 1\n"),
     ];
     for (number, lines) in expected {
-        let known = known().into_iter().find(|known| known.title.starts_with(number)).expect(number);
+        let known = titled(number);
         assert_eq!(printed(&known.sheet), lines, "{}", known.title);
+    }
+}
+
+/// A folder or file of the repository.
+fn repository(path: &str) -> PathBuf {
+    PathBuf::from(env!("CARGO_MANIFEST_DIR")).join("..").join(path)
+}
+
+/// The lines of a text that are indented by four spaces, without the indent.
+fn indented(text: &str) -> String {
+    text.lines().filter_map(|line| line.strip_prefix("    ")).map(|line| format!("{line}\n")).collect()
+}
+
+#[test]
+fn the_lines_in_the_readme() {
+    let readme = fs::read_to_string(repository("README.md")).expect("README.md");
+    assert!(indented(&readme).contains(KILN_LINES), "README.md shows what is printed for the kiln sheet");
+}
+
+/// The sheets to try and `examples/README.md` name each other, and under each name stands what is printed.
+#[test]
+fn the_sheets_to_try() {
+    let readme = fs::read_to_string(repository("examples/README.md")).expect("examples/README.md");
+    let mut blocks: Vec<(&str, String)> = readme
+        .split("\n## ")
+        .skip(1)
+        .map(|section| section.split_once('\n').expect("lines under a heading"))
+        .map(|(name, under)| (name, indented(under)))
+        .collect();
+    blocks.sort();
+    let mut files: Vec<String> = fs::read_dir(repository("examples"))
+        .expect("examples")
+        .map(|file| file.expect("a file").file_name().into_string().expect("a name"))
+        .filter(|name| name.ends_with(".sheet"))
+        .collect();
+    files.sort();
+    assert_eq!(blocks.iter().map(|(name, _)| *name).collect::<Vec<_>>(), files, "headings, and files");
+    for (name, block) in blocks {
+        let sheet = fs::read(repository("examples").join(name)).expect(name);
+        assert_eq!(block, printed(&sheet), "the indented lines under {name}, and what is printed");
     }
 }
 
@@ -98,15 +140,19 @@ fn inputs_that_arrive_in_pieces() {
     }
 }
 
-/// 15 free choices over names of 12 bytes: one view of 32,768 sets, the largest output of one view.
+/// So many free choices over names of 12 bytes: one view, whose belief sets are all sets of atoms.
+fn free_choices(atoms: usize) -> Vec<u8> {
+    sheet(&long_names()[..atoms], &choices(0..atoms))
+}
+
+/// 32,768 sets, the largest output of one view.
 fn largest() -> Vec<u8> {
-    let choices: Vec<_> = (0..15).map(|atom| rule(&[(HEAD, 1 << atom), (NOT_NOT, 1 << atom)])).collect();
-    sheet(&long_names(), &choices)
+    free_choices(15)
 }
 
 #[test]
 fn the_largest_output() {
-    let text = String::from_utf8(output("views", largest(), 1 << 16)).unwrap();
+    let text = printed(&largest());
     let expected = String::from_utf8(lines(&largest())).unwrap();
     assert_eq!(text.lines().count(), 32_768 + 3);
     assert_eq!(text.lines().nth(1), Some("view 0 32768"));
@@ -124,25 +170,13 @@ fn peak(process: u32) -> Option<u64> {
     line.split_whitespace().nth(1)?.parse().ok()
 }
 
-/// The peak of `views` on the kiln sheet, sampled until it ends.
-fn kiln_peak() -> u64 {
-    let mut child = start("views");
-    let feeder = feed(child.stdin.take().expect("piped"), kiln(), 1 << 16);
-    let mut most = 0;
-    while child.try_wait().expect("views runs").is_none() {
-        most = peak(child.id()).unwrap_or(most);
-    }
-    feeder.join().expect("standard input was fed");
-    most
-}
-
-/// The peak on the largest output when the first 128 KiB of it were read, and when all but the last 128 KiB were. A
-/// pipe holds less than that, so `views` still runs. And how many bytes it printed.
-fn largest_peaks() -> (u64, u64, usize) {
+/// The peak of `views` on a sheet when the first 128 KiB of its output were read, and when all but the last 128 KiB were.
+/// A pipe holds less than that, so `views` still runs. And how many bytes it printed.
+fn peaks(sheet: Vec<u8>) -> (u64, u64, usize) {
     const PART: usize = 128 * 1_024;
-    let expected = lines(&largest());
+    let expected = lines(&sheet);
     let mut child = start("views");
-    let feeder = feed(child.stdin.take().expect("piped"), largest(), 1 << 16);
+    let feeder = feed(child.stdin.take().expect("piped"), sheet, 1 << 16);
     let mut stdout = child.stdout.take().expect("piped");
     let mut text = vec![0; expected.len() - PART];
     stdout.read_exact(&mut text[..PART]).expect("views prints");
@@ -155,18 +189,16 @@ fn largest_peaks() -> (u64, u64, usize) {
     (early, late, text.len())
 }
 
-/// An output of over three million bytes costs at most 1 MiB more than that of the kiln sheet, and at most 256 KiB more
-/// near its end than near its beginning.
+/// An output of over three million bytes costs at most 1 MiB more than one of about a tenth, and at most 256 KiB more near
+/// its end than near its beginning.
 #[test]
 fn memory_does_not_grow_with_the_output() {
-    let small = (0..10).map(|_| kiln_peak()).max().expect("ten runs");
-    let (early, late, bytes) = largest_peaks();
-    println!(
-        "peak memory: {small} KiB for the kiln sheet; for {bytes} bytes {early} KiB at first and {late} KiB at last"
-    );
-    assert!(bytes > 3_000_000);
+    let (_, small, few) = peaks(free_choices(12));
+    let (early, late, many) = peaks(largest());
+    println!("peak memory: {small} KiB for {few} bytes; for {many} bytes {early} KiB at first and {late} KiB at last");
+    assert!(many > 3_000_000 && few < many / 9);
     assert!(late <= early + 256, "{late} KiB at last, {early} KiB at first");
-    assert!(late <= small + 1_024, "{late} KiB, and {small} KiB for the kiln sheet");
+    assert!(late <= small + 1_024, "{late} KiB for {many} bytes, and {small} KiB for {few}");
 }
 
 const SHAPES: [Shape; 3] = [

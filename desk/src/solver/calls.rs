@@ -3,7 +3,7 @@
 use super::guess::Guess;
 use super::listing::{Listing, Program, Verdict};
 use super::sheet::read;
-use super::Set;
+use super::{has, Set};
 use crate::refusal::Refusal;
 use std::cell::OnceCell;
 
@@ -84,14 +84,17 @@ impl Opened {
 
     /// What the world views say of an atom; refusal 10. "A sheet without world views answers yes."
     pub fn query(&self, atom: u32) -> Result<Answer, Refusal> {
-        if atom as usize >= self.names.len() {
+        let atom = atom as usize;
+        if atom >= self.names.len() {
             return Err(Refusal::new(10, 0));
         }
         let views = &self.listing().views;
-        Ok(match atom {
-            atom if views.iter().all(|view| view.known >> atom & 1 == 1) => Answer::Yes,
-            atom if views.iter().all(|view| view.possible >> atom & 1 == 0) => Answer::No,
-            _ => Answer::Open,
+        Ok(if views.iter().all(|view| has(view.known, atom)) {
+            Answer::Yes
+        } else if !views.iter().any(|view| has(view.possible, atom)) {
+            Answer::No
+        } else {
+            Answer::Open
         })
     }
 

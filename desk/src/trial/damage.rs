@@ -35,9 +35,14 @@ fn change(random: &mut Random, bytes: &mut [u8]) {
     };
 }
 
-/// Where the rule count stands in a sheet that begins with whole names.
+/// Where so many names end in a sheet that begins with whole names.
+fn after_names(bytes: &[u8], count: u8) -> usize {
+    (0..count).fold(1, |at, _| at + 1 + usize::from(bytes[at]))
+}
+
+/// Where the rule count stands in such a sheet.
 fn rules_at(bytes: &[u8]) -> usize {
-    (0..bytes[0]).fold(1, |at, _| at + 1 + usize::from(bytes[at]))
+    after_names(bytes, bytes[0])
 }
 
 /// A change of the rule count or of a byte of a mask.
@@ -57,9 +62,9 @@ fn names(random: &mut Random, bytes: &mut Vec<u8>) {
     if bytes[0] == 0 {
         return extend(random, bytes);
     }
-    let chosen = random.below(bytes[0].into());
-    let at = (0..chosen).fold(1, |at, _| at + 1 + usize::from(bytes[at]));
-    let end = at + 1 + usize::from(bytes[at]);
+    let chosen = random.below(bytes[0].into()) as u8;
+    let at = after_names(bytes, chosen);
+    let end = after_names(bytes, chosen + 1);
     match random.below(3) {
         0 => bytes[at] = random.pick(&[0, 13, 255]),
         1 => bytes[random.between(at + 1, end - 1)] = random.pick(b"`{/:A_0\x5e\x60\x00\xff"),

@@ -22,6 +22,11 @@ pub fn known() -> Vec<Known> {
     sheets
 }
 
+/// The sheet whose title begins so.
+pub fn titled(start: &str) -> Known {
+    known().into_iter().find(|known| known.title.starts_with(start)).expect(start)
+}
+
 fn one_atom() -> Vec<Known> {
     vec![
         known_sheet("1: nothing", 0, &[], &[[0, 0, 0, 1]], [1, 0, 0, 1, 0, 0]),

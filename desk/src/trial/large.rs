@@ -30,16 +30,11 @@ fn each(count: usize, rule: impl Fn(u16) -> Rule) -> Vec<Rule> {
     (0..count).map(|atom| rule(1 << atom)).collect()
 }
 
-/// A rule that is always true and names its negations: it sets k.
-fn names_negations(known: u16, possible: u16) -> Rule {
-    rule(&[(HEAD, 1), (PLAIN, 1), (K, known), (M, possible)])
-}
-
 /// Twelve facts, each to be known, and three choices: every guess but one is contradicted.
 fn all_ruled() -> Vec<Rule> {
     let mut rules = each(12, |a| rule(&[(HEAD, a)]));
     rules.extend(each(12, |a| rule(&[(NOT_K, a)])));
-    rules.extend((12..15).map(|atom| rule(&[(HEAD, 1 << atom), (NOT_NOT, 1 << atom)])));
+    rules.extend(choices(12..15));
     rules
 }
 
@@ -74,7 +69,7 @@ fn random_rules(stream: u64, heads: usize, count: usize, asked: u16) -> Vec<Rule
 
 /// Ten choices; three atoms are known when a choice is, and two are possible when one is.
 fn free_choices() -> Vec<Rule> {
-    let mut rules = each(10, |a| rule(&[(HEAD, a), (NOT_NOT, a)]));
+    let mut rules = choices(0..10);
     rules.extend((0..3).map(|atom| rule(&[(HEAD, 1 << (10 + atom)), (K, 1 << atom)])));
     rules.extend((0..2).map(|atom| rule(&[(HEAD, 1 << (13 + atom)), (M, 1 << atom)])));
     rules
@@ -91,7 +86,7 @@ fn odd_cycle(atoms: usize, asked: u16) -> Vec<Rule> {
 /// An odd cycle of three atoms beside twelve choices.
 fn choices_and_cycle() -> Vec<Rule> {
     let mut rules = odd_cycle(3, 0b111);
-    rules.extend((3..15).map(|atom| rule(&[(HEAD, 1 << atom), (NOT_NOT, 1 << atom)])));
+    rules.extend(choices(3..15));
     rules
 }
 

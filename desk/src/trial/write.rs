@@ -1,6 +1,7 @@
 //! Sheets written from names and rules.
 
 use crate::solver::sheet::Rule;
+use std::ops::Range;
 
 pub const HEAD: usize = 0;
 pub const PLAIN: usize = 1;
@@ -18,6 +19,16 @@ pub fn rule(masks: &[(usize, u16)]) -> Rule {
         rule[mask] = atoms;
     }
     rule
+}
+
+/// The free choice of each of these atoms: a <- not not a.
+pub fn choices(atoms: Range<usize>) -> Vec<Rule> {
+    atoms.map(|atom| rule(&[(HEAD, 1 << atom), (NOT_NOT, 1 << atom)])).collect()
+}
+
+/// A rule that is always true and names its negations: it sets k.
+pub fn names_negations(known: u16, possible: u16) -> Rule {
+    rule(&[(HEAD, 1), (PLAIN, 1), (K, known), (M, possible)])
 }
 
 /// The bytes of a sheet. Nothing is checked: too many names or too long a name make a sheet that is to be refused.
