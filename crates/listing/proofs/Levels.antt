@@ -1,6 +1,6 @@
 -- Levels: guesses of one size. The views that a walk meets along guesses of falling size stand level by level. Assumes nothing.
 use Prim.Native.Nat.{ℕ, _*_, _≤_, _<_}
-use mathlib.Core.Path.{_≡_, refl, sym, ap, _∙_, subst}
+use mathlib.Core.Path.{_≡_, sym, ap, subst}
 use mathlib.Core.Bool.{Bool, true, false}
 use mathlib.Core.List.{List, [], _∷_, _++_, append-nil, foldl, List·Memᴰ·eq-of-singleton}
 use mathlib.Core.Logic.{_⊎_, inl, inr, ⊎-elim}
@@ -12,7 +12,7 @@ use Rattle.sets.specs.Pairwise.{Pairwise, pairwise-snoc, pairwise-prefix, pairw
 use Rattle.sets.specs.Sets.{_⊆?_, _⊂?_, size}
 use Rattle.sets.specs.Members.{dec-⊆, dec-⊂}
 use Rattle.sets.specs.Size.{size-⊂}
-use Rattle.semantics.specs.Definitions.Setting.{Setting, k}
+use Rattle.semantics.specs.Definitions.Setting.{Setting}
 use Rattle.semantics.specs.Definitions.Check.{mostNegations, setting, opened}
 use Rattle.semantics.specs.Definitions.Verdict.{Verdict, empty, other, verified, verdict}
 use Rattle.semantics.specs.Definitions.Propagation.{contradicted}

@@ -11,7 +11,7 @@ ghost use Rattle.semantics.specs.Definitions.Stable.{satisfies, smallerModel, s
 ghost use Rattle.stable.specs.Applied.{applies as appliesIn, positiveIn, positiveProgramIn};
 ghost use Rattle.stable.specs.Tested.{passes, ReducedBy};
 
-// What the test of a set answers: it is stable; or it is not, with the number of a rule to ask first of the next set.
+// What the test of a set answers: it is stable; or it is not, with a rule to ask first of the next set, of whose number nothing is promised.
 pub enum Tested {
     Stable,
     Unstable(usize),

@@ -11,8 +11,8 @@ ghost use Rattle.semantics.specs.Words.{programIn};
 ghost use Rattle.semantics.specs.Definitions.Sheet.{mostAtoms, mostRules};
 ghost use Rattle.semantics.specs.Definitions.Stable.{stableSets};
 
-// Writes the stable sets of a program, by rising number, and says how many they are. Each set is tested once; a rule that failed in one set
-// is asked first of the next, where it often fails again.
+// Writes the stable sets of a program, by rising number, and says how many they are. Each set is tested once. The rule that failed last is
+// asked first (at the beginning rule 0): it often fails again.
 pub fn stable_sets(program: &[u16], rules: usize, atoms: usize, out: &mut [u16]) -> usize
     requires { ⌜ (4 * rules ≤ length (now program)) × (rules ≤ mostRules) × (atoms ≤ mostAtoms) × (2 ^ atoms ≤ length (now out)) ⌝ }
     ensures { λ r. ⌜ length (now (out .exit)) ≡ length (now (out .entry)) ⌝ }

@@ -41,13 +41,13 @@ fn after_names(bytes: &[u8], count: u8) -> usize {
 }
 
 /// Where the rule count stands in such a sheet.
-fn rules_at(bytes: &[u8]) -> usize {
+fn rule_count_at(bytes: &[u8]) -> usize {
     after_names(bytes, bytes[0])
 }
 
 /// A change of the rule count or of a byte of a mask.
 fn rule_byte(random: &mut Random, bytes: &mut [u8]) {
-    let count = rules_at(bytes);
+    let count = rule_count_at(bytes);
     let old = bytes[count];
     if random.chance(30) || bytes.len() == count + 1 {
         bytes[count] = random.pick(&[old + 1, old.wrapping_sub(1), 64, 65, 255]);
@@ -70,7 +70,7 @@ fn names(random: &mut Random, bytes: &mut Vec<u8>) {
         1 => bytes[random.between(at + 1, end - 1)] = random.pick(b"`{/:A_0\x5e\x60\x00\xff"),
         _ => {
             let name = bytes[at..end].to_vec();
-            let later = random.pick(&[end, rules_at(bytes)]);
+            let later = random.pick(&[end, rule_count_at(bytes)]);
             bytes.splice(later..later, name);
             bytes[0] += 1;
         }

@@ -17,7 +17,7 @@ use Rattle.semantics.specs.Definitions.Check.{mostNegations, setting, op
 use Rattle.semantics.specs.Theorems.Names.{dec-between}
 use Rattle.semantics.specs.Theorems.Fields.{count-field}
 
--- the place after the field, or the refusal's place, is at most b, and the refusal's number is one of the first
+-- the place after the field, or the refusal's place, is at most b, and the refusal's number is from 1 to `most`
 abbrev pub Within : {A : Type 0} → (most b : ℕ) → Reading A → Type 0
 Within most b (field value next) = next ≤ b
 Within most b (refused number place) = (place ≤ b) × (1 ≤ number) × (number ≤ most)
