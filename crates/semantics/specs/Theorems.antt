@@ -9,6 +9,7 @@ pub mod Layout
 pub mod Bytes
 pub mod Fitting
 pub mod Exact
+pub mod Following
 -- ---- what the calls return for any bytes
 pub mod Returned
 pub mod Check

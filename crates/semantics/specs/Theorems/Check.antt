@@ -15,7 +15,7 @@ use Rattle.semantics.specs.Definitions.Sheet.{Sheet, ruleOfMasks, longes
 use Rattle.semantics.specs.Definitions.Setting.{Setting, settingOf, k}
 use Rattle.semantics.specs.Definitions.Check.{mostNegations, setting, opened, Numbers, numbers, numbersOf, check}
 use Rattle.semantics.specs.Definitions.Returned.{accepted, refusal, returned}
-use Rattle.semantics.specs.Theorems.Reading.{require-refused}
+use Rattle.semantics.specs.Theorems.Reading.{then-field, require-refused}
 use Rattle.semantics.specs.Theorems.Returned.{SheetOf, was-accepted, reading-refused}
 use Rattle.semantics.specs.Theorems.Places.{refusal-place, refusal-number, sections-number}
 use Rattle.semantics.specs.Theorems.Layout.{IsBytes, sheetBytes, Fits}
@@ -49,6 +49,13 @@ check-exactly s small n = (
       record { names = names; rules = rules; fit = fits; layout = laid; counted = told ∙ ap numbersOf same },
   λ l. ap check (l .layout) ∙ check-accepts (l .names) (l .rules) (l .fit) ∙ ap accepted (sym (l .counted)),
 )
+
+-- its sections are read whole
+pub laid-out-read : (s : List ℕ) (n : Numbers) → LaidOut s n → (x : Sheet) × (end : ℕ) × (sections s ≡ field x end)
+unfolding opened
+laid-out-read s n l =
+    let (x, end, e, _) = then-field (sections s) _ (ap opened (l .layout) ∙ fits-accepted (l .names) (l .rules) (l .fit)) in
+    (x, end, e)
 
 -- the sheet that was accepted
 pub checked-sheet : (s : List ℕ) {n : Numbers} → check s ≡ accepted n → (o : Setting) × SheetOf s o
