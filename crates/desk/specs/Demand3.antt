@@ -46,6 +46,7 @@ pub record DeskDemand (sheet : List ℕ) (r : ℕ) (before after : List ℕ) : T
   -- "Every lent buffer holds what it held."
   pub refused-keeps : (r ≡ 0 → ⊥) → after ≡ before
 
+-- ---- proofs
 -- The two hypotheses are what the call ensures.
 module _ (sheet : List ℕ) (r : ℕ) (before after : List ℕ)
     (answers : r ≡ deskNumber (deskCall sheet (length before)))

@@ -42,6 +42,27 @@ pub record VerdictDemand (sheet : List ℕ) (g : ℕ) (v : Judged) : Type 0 wher
   -- a sheet or a guess that is refused is refused so
   pub guess-refused : (number place : ℕ) → openedFor sheet g ≡ refused number place → v ≡ judgements.Refused number place
 
+-- ---- r is what `belief_sets` answers where it is lent `before`, and leaves `after`
+-- what `belief_sets` leaves where it answers n: the first n words are exactly the stable models of the reduct, each once, rising, and the
+-- words after them are kept
+pub record SetsWritten (sheet : List ℕ) (g n : ℕ) (before after : List ℕ) : Type 0 where
+  pub of : Setting
+  pub guess-of : calls.GuessOf sheet g of
+  pub models : SetsOf of g (take n after)
+  pub rest : drop n after ≡ drop n before
+  pub fits : n ≤ length before
+
+pub record SetsDemand (sheet : List ℕ) (g : ℕ) (r : Counted) (before after : List ℕ) : Type 0 where
+  -- the belief sets written are exactly the stable models of its reduct; they are written wherever they fit
+  pub sets-written : (n : ℕ) → r ≡ Accepted n → SetsWritten sheet g n before after
+  pub sets-fit : (s : Setting) → calls.GuessOf sheet g s → (w : List ℕ) → SetsOf s g w → length w ≤ length before → r ≡ Accepted (length w)
+  -- a sheet or a guess that is refused is refused so; else 9 where there are more sets than words, with their number
+  pub guess-refused : (number place : ℕ) → openedFor sheet g ≡ refused number place → r ≡ Refused number place
+  pub sets-too-many : (s : Setting) → calls.GuessOf sheet g s → (w : List ℕ) → SetsOf s g w → length before < length w → r ≡ Refused 9 (length w)
+  -- "Every lent buffer holds what it held."
+  pub refused-keeps : (number place : ℕ) → r ≡ Refused number place → after ≡ before
+
+-- ---- proofs
 -- by what the call ensures
 module _ (sheet : List ℕ) (g : ℕ) (v : Judged) (answered : judged v ≡ verdictCall sheet g) where
   says : (known possible sets : ℕ) → v ≡ judgements.Verified known possible sets → (s : Setting) × calls.GuessOf sheet g s × Verified s g known possible sets
@@ -98,26 +119,6 @@ module _ (sheet : List ℕ) (g : ℕ) (v : Judged) (answered : judged v ≡ verd
     other-values = values;
     guess-refused = λ number place e. judged-fixed v _ (answered ∙ calls.verdict-refused sheet g number place .1 e);
   }
-
--- ---- r is what `belief_sets` answers where it is lent `before`, and leaves `after`
--- what `belief_sets` leaves where it answers n: the first n words are exactly the stable models of the reduct, each once, rising, and the
--- words after them are kept
-pub record SetsWritten (sheet : List ℕ) (g n : ℕ) (before after : List ℕ) : Type 0 where
-  pub of : Setting
-  pub guess-of : calls.GuessOf sheet g of
-  pub models : SetsOf of g (take n after)
-  pub rest : drop n after ≡ drop n before
-  pub fits : n ≤ length before
-
-pub record SetsDemand (sheet : List ℕ) (g : ℕ) (r : Counted) (before after : List ℕ) : Type 0 where
-  -- the belief sets written are exactly the stable models of its reduct; they are written wherever they fit
-  pub sets-written : (n : ℕ) → r ≡ Accepted n → SetsWritten sheet g n before after
-  pub sets-fit : (s : Setting) → calls.GuessOf sheet g s → (w : List ℕ) → SetsOf s g w → length w ≤ length before → r ≡ Accepted (length w)
-  -- a sheet or a guess that is refused is refused so; else 9 where there are more sets than words, with their number
-  pub guess-refused : (number place : ℕ) → openedFor sheet g ≡ refused number place → r ≡ Refused number place
-  pub sets-too-many : (s : Setting) → calls.GuessOf sheet g s → (w : List ℕ) → SetsOf s g w → length before < length w → r ≡ Refused 9 (length w)
-  -- "Every lent buffer holds what it held."
-  pub refused-keeps : (number place : ℕ) → r ≡ Refused number place → after ≡ before
 
 -- by what the call ensures
 module _ (sheet : List ℕ) (g : ℕ) (r : Counted) (before after : List ℕ)

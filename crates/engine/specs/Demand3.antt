@@ -44,6 +44,7 @@ pub record ListingDemand (sheet : List ℕ) (r : Listed) (before after : List �
   -- "Every lent buffer holds what it held."
   pub refused-keeps : (number place : ℕ) → r ≡ Refused number place → after ≡ before
 
+-- ---- proofs
 -- The two hypotheses are what the call ensures.
 module _ (sheet : List ℕ) (r : Listed) (before after : List ℕ)
     (answers : listed r ≡ answer (λ v. v .tally) (listCall sheet (length before)))

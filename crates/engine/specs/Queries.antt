@@ -25,6 +25,7 @@ pub record QueryDemand (sheet : List ℕ) (a : ℕ) (q : Queried) : Type 0 where
   -- a sheet or an atom that is refused is refused so
   pub atom-refused : (number place : ℕ) → openedForAtom sheet a ≡ refused number place → q ≡ Refused number place
 
+-- ---- proofs
 -- by what the call ensures
 module _ (sheet : List ℕ) (a : ℕ) (q : Queried) (answered : queried q ≡ queryCall sheet a) where
   -- an answer exactly when what it means is so
