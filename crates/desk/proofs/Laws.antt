@@ -1,5 +1,5 @@
 -- What the desk call returns, from what `engine::list` answers. Assumes nothing.
-use Prim.Native.Nat.{ℕ, _+_, _*_, _^_, _/_, _≤_, _<_}
+use Prim.Native.Nat.{ℕ, _+_, _*_, _/_, _≤_, _<_}
 use mathlib.Core.Path.{_≡_, sym, ap, ap₂, _∙_, subst}
 use mathlib.Core.List.{List, _++_}
 use mathlib.Core.Logic.{inl}
@@ -7,12 +7,13 @@ use native.Mathlib.Omega.{arith}
 use lib.ListN.{length, take, drop, length-append}
 use lib.Seq.{take-at}
 use Rattle.semantics.specs.Definitions.Setting.{Setting}
-use Rattle.semantics.specs.Definitions.Check.{mostNegations}
-use Rattle.semantics.specs.Definitions.Returned.{accepted, refusal, answer, written, afterwards}
+use Rattle.semantics.specs.Definitions.Returned.{Returned, accepted, refusal, answer, written, afterwards}
 use Rattle.semantics.specs.Definitions.Listing.{Tally, six, tallied, tallyOf, listing, words}
 use Rattle.semantics.specs.Definitions.Calls.{resultOf, recordsNeed, listCall, recordsOf}
 use Rattle.semantics.specs.Definitions.Desk.{bytesOf, deskNeed, deskBytes, deskCall, deskNumber}
-use Rattle.semantics.specs.Theorems.Returned.{SheetOf, fits-limited, short-limited, answer-accepted, answer-refused}
+use Rattle.semantics.specs.Theorems.Returned.{fits-limited, short-limited, answer-accepted, answer-refused}
+use Rattle.semantics.specs.Walk.{recordsRoom}
+use Rattle.semantics.specs.Theorems.Source.{Bounded}
 use Rattle.semantics.specs.Theorems.Tally.{AtMost}
 use Rattle.semantics.specs.Theorems.Listing.{listing-long}
 use Rattle.semantics.specs.Theorems.Records.{words-long}
@@ -24,41 +25,41 @@ use Rattle.engine.specs.Answers.{listed}
 use Rattle.desk.specs.Demand3.{DeskDemand, desk-demand}
 
 -- ---- what is returned, and the lent bytes
-module _ (sheet out : List ℕ) where
+module _ (from : Returned Setting) (bounded : Bounded from) (out : List ℕ) where
   abbrev pub Returns : (r : ℕ) (after : List ℕ) → Type 0
-  Returns r after = (r ≡ deskNumber (deskCall sheet (length out))) × (after ≡ afterwards deskBytes (deskCall sheet (length out)) out)
+  Returns r after = (r ≡ deskNumber (deskCall from (length out))) × (after ≡ afterwards deskBytes (deskCall from (length out)) out)
 
   -- with the demand that follows
   pub met : {r : ℕ} {after : List ℕ} → Returns r after
-      → (r ≡ deskNumber (deskCall sheet (length out)))
-      × ((after ≡ afterwards deskBytes (deskCall sheet (length out)) out) × DeskDemand sheet r out after)
-  met {r} {after} p = (p .0, (p .1, desk-demand sheet r out after (p .0) (p .1)))
+      → (r ≡ deskNumber (deskCall from (length out)))
+      × ((after ≡ afterwards deskBytes (deskCall from (length out)) out) × DeskDemand from r out after)
+  met {r} {after} p = (p .0, (p .1, desk-demand from bounded r out after (p .0) (p .1)))
 
-  kept : (number place : ℕ) → deskCall sheet (length out) ≡ refusal number place → Returns (number * 65536 + place) out
+  kept : (number place : ℕ) → deskCall from (length out) ≡ refusal number place → Returns (number * 65536 + place) out
   kept number place e = (sym (ap deskNumber e), sym (ap (λ q. afterwards deskBytes q out) e))
 
 -- ---- a buffer of so many words was lent to `list`, which answered r
-module _ (sheet : List ℕ) (size : ℕ) {r : Listed} (answered : listed r ≡ answer (λ v. v .tally) (listCall sheet size)) where
-  -- a refusal is the sheet's where the buffer is never too short
-  module _ {number place : ℕ} (told : r ≡ Refused number place) (long : 4 * 2 ^ mostNegations ≤ size) where
-    returned : listCall sheet size ≡ refusal number place
-    returned = answer-refused (λ v. v .tally) (listCall sheet size) (sym answered ∙ ap listed told)
+module _ (from : Returned Setting) (bounded : Bounded from) (size : ℕ) {r : Listed} (answered : listed r ≡ answer (λ v. v .tally) (listCall from size)) where
+  -- a refusal comes before the listing where the buffer is never too short
+  module _ {number place : ℕ} (told : r ≡ Refused number place) (long : 4 * recordsRoom ≤ size) where
+    returned : listCall from size ≡ refusal number place
+    returned = answer-refused (λ v. v .tally) (listCall from size) (sym answered ∙ ap listed told)
 
-    pub small-refusal : (1 ≤ number) × (number ≤ 9) × (place < 65536)
-    small-refusal = refused-small recordsNeed sheet size number place returned
+    pub small-refusal : (1 ≤ number) × (place < 65536)
+    small-refusal = refused-small bounded size number place recordsNeed returned
 
-    pub refused-too : (out : List ℕ) → Returns sheet out (number * 65536 + place) out
+    pub refused-too : (out : List ℕ) → Returns from bounded out (number * 65536 + place) out
     refused-too out =
-        kept sheet out number place (list-refused deskNeed sheet (length out / 2) number place .1 (inl (never-short sheet size number place long returned)))
+        kept from bounded out number place (list-refused deskNeed from (length out / 2) number place .1 (inl (never-short bounded size number place long returned)))
 
   module _ {views covered ruled tested empty other : ℕ} (told : r ≡ Accepted views covered ruled tested empty other) where
     abbrev tally : Tally
     tally = tallied views covered ruled tested empty other
 
-    found : (s : Setting) × SheetOf sheet s × (listCall sheet size ≡ accepted (resultOf s)) × (tallyOf s ≡ tally) × (4 * length (listing s) ≤ size)
+    found : (s : Setting) × (from ≡ accepted s) × (listCall from size ≡ accepted (resultOf s)) × (tallyOf s ≡ tally) × (4 * length (listing s) ≤ size)
     found =
-        let (v, d, e) = answer-accepted (λ v. v .tally) (listCall sheet size) (sym answered ∙ ap listed told) in
-        let (s, h, same, fit) = result-says recordsNeed sheet size d in
+        let (v, d, e) = answer-accepted (λ v. v .tally) (listCall from size) (sym answered ∙ ap listed told) in
+        let (s, h, same, fit) = result-says recordsNeed from size d in
         (s, h, d ∙ ap accepted same, sym (ap (λ z. z .tally) same) ∙ e, fit)
 
     long : (s : Setting) → tallyOf s ≡ tally → length (listing s) ≡ views
@@ -67,35 +68,35 @@ module _ (sheet : List ℕ) (size : ℕ) {r : Listed} (answered : listed r ≡ a
     pub small : AtMost tally 65535
     small =
         let (s, h, _, e, _) = found in
-        let (a, b, c, d, f, g) = tally-small h in
+        let (a, b, c, d, f, g) = tally-small bounded h in
         subst (λ t. AtMost t 65535) e
         (omega (arith, a), omega (arith, b), omega (arith, c), omega (arith, d), omega (arith, f), omega (arith, g))
 
-    pub too-short : (out : List ℕ) → length out / 2 < 6 + 4 * views → Returns sheet out (9 * 65536 + views) out
+    pub too-short : (out : List ℕ) → length out / 2 < 6 + 4 * views → Returns from bounded out (9 * 65536 + views) out
     too-short out l =
         let (s, h, _, e, _) = found in
         let n = long s e in
-        kept sheet out 9 views (result-given deskNeed sheet (length out / 2) h
+        kept from bounded out 9 views (result-given deskNeed from (length out / 2) h
         ∙ short-limited _ (length out / 2) _ (resultOf s) (subst (λ m. length out / 2 < 6 + 4 * m) (sym n) l) ∙ ap (refusal 9) n)
 
     -- the buffer of `list` after it answered: the records of the views are its first words
-    pub fits : (part out : List ℕ) {after final : List ℕ} → after ≡ afterwards recordsOf (listCall sheet size) part
+    pub fits : (part out : List ℕ) {after final : List ℕ} → after ≡ afterwards recordsOf (listCall from size) part
         → 6 + 4 * views ≤ length out / 2 → final ≡ written (bytesOf (six tally ++ take (4 * views) after)) out
-        → Returns sheet out 0 final
+        → Returns from bounded out 0 final
     fits part out {after} {final} left l f =
         let (s, h, d, t, _) = found in
         let ws = words (listing s) in
         let first : take (4 * views) after ≡ ws =
         ap (take (4 * views)) (left ∙ ap (λ q. afterwards recordsOf q part) d)
         ∙ take-at ws (drop (length ws) part) (4 * views) (words-long (listing s) ∙ ap (λ n. 4 * n) (long s t)) in
-        let call : deskCall sheet (length out) ≡ accepted (resultOf s) =
-        result-given deskNeed sheet (length out / 2) h
+        let call : deskCall from (length out) ≡ accepted (resultOf s) =
+        result-given deskNeed from (length out / 2) h
         ∙ fits-limited _ (length out / 2) _ (resultOf s) (subst (λ m. 6 + 4 * m ≤ length out / 2) (sym (long s t)) l) in (
           sym (ap deskNumber call),
           f ∙ ap (λ b. written (bytesOf b) out) (ap₂ (λ u w. six u ++ w) (sym t) first) ∙ sym (ap (λ q. afterwards deskBytes q out) call),
         )
 
-    pub records-fit : (part : List ℕ) {after : List ℕ} → size ≡ length part → after ≡ afterwards recordsOf (listCall sheet size) part → 4 * views ≤ length after
+    pub records-fit : (part : List ℕ) {after : List ℕ} → size ≡ length part → after ≡ afterwards recordsOf (listCall from size) part → 4 * views ≤ length after
     records-fit part e left =
         let (s, h, d, t, fit) = found in
         let ws = words (listing s) in

@@ -6,25 +6,24 @@ use mathlib.Core.Logic.{inl}
 use native.Mathlib.Omega.{arith}
 use lib.ListN.{length, take, drop}
 use lib.Seq.{drop-at}
-use Rattle.semantics.specs.Definitions.Reading.{refused}
 use Rattle.semantics.specs.Definitions.Setting.{Setting}
-use Rattle.semantics.specs.Definitions.Check.{opened}
 use Rattle.semantics.specs.Definitions.Returned.{Returned, accepted, refusal, afterwards}
 use Rattle.semantics.specs.Definitions.Listing.{Tally, six, tallyOf, listing, words}
 use Rattle.semantics.specs.Definitions.Calls.{Result, resultOf}
 use Rattle.semantics.specs.Definitions.Desk.{bytesOf, wordsIn, deskNeed, deskBytes, deskCall, deskNumber}
-use Rattle.semantics.specs.Theorems.Returned.{SheetOf, fits-limited, short-limited}
+use Rattle.semantics.specs.Theorems.Returned.{fits-limited, short-limited}
 use Rattle.semantics.specs.Theorems.Tally.{Number, TallyOf, tally-of}
 use Rattle.semantics.specs.Theorems.WorldView.{WorldView}
 use Rattle.semantics.specs.Theorems.Listing.{views-of, listing-long, listing-many}
 use Rattle.semantics.specs.Theorems.Records.{RecordsOf, records-of, words-long}
 use Rattle.semantics.specs.Theorems.ListCall.{result-given, result-says, list-refused}
+use Rattle.semantics.specs.Theorems.Source.{Bounded}
 use Rattle.semantics.specs.Theorems.Desk.{words-back, bytes-long, refused-small}
 
 -- what the desk call leaves where it returns 0
-pub record DeskWritten (sheet : List ℕ) (t : Tally) (before after : List ℕ) : Type 0 where
+pub record DeskWritten (from : Returned Setting) (t : Tally) (before after : List ℕ) : Type 0 where
   pub of : Setting
-  pub sheet-of : SheetOf sheet of
+  pub accepts : from ≡ accepted of
   -- the words begin with six counts, which are the numbers of guesses of these names
   pub counts : take 6 (wordsIn after) ≡ six t
   pub tally : TallyOf of t
@@ -34,34 +33,35 @@ pub record DeskWritten (sheet : List ℕ) (t : Tally) (before after : List ℕ) 
   pub rest : drop (2 * (6 + 4 * t .views)) after ≡ drop (2 * (6 + 4 * t .views)) before
   pub fits : 6 + 4 * t .views ≤ length before / 2
 
--- of a sheet: r is what the desk call returns where it is lent `before`, and leaves `after`
-pub record DeskDemand (sheet : List ℕ) (r : ℕ) (before after : List ℕ) : Type 0 where
-  pub listing-written : r ≡ 0 → (t : Tally) × DeskWritten sheet t before after
-  -- a sheet that is refused is refused so; else 9 exactly where 6 + 4 times views is over the words, with the number of views. Number and
+-- r is what the desk call returns where it is lent `before`, and leaves `after`. The call's source is `from`: a setting, or the refusal that
+-- comes before.
+pub record DeskDemand (from : Returned Setting) (r : ℕ) (before after : List ℕ) : Type 0 where
+  pub listing-written : r ≡ 0 → (t : Tally) × DeskWritten from t before after
+  -- a refusal that comes before is the answer; else 9 exactly where 6 + 4 times views is over the words, with the number of views. Number and
   -- place are told apart: no number is 0, and each place is below 65,536.
-  pub sheet-refused : (number place : ℕ) → opened sheet ≡ refused number place → (r ≡ number * 65536 + place) × (1 ≤ number) × (place < 65536)
-  pub views-fit : (s : Setting) → SheetOf sheet s → (n : ℕ) → Number s (WorldView s) n → 6 + 4 * n ≤ length before / 2 → r ≡ 0
-  pub views-too-many : (s : Setting) → SheetOf sheet s → (n : ℕ) → Number s (WorldView s) n → length before / 2 < 6 + 4 * n
+  pub refused-before : (number place : ℕ) → from ≡ refusal number place → (r ≡ number * 65536 + place) × (1 ≤ number) × (place < 65536)
+  pub views-fit : (s : Setting) → from ≡ accepted s → (n : ℕ) → Number s (WorldView s) n → 6 + 4 * n ≤ length before / 2 → r ≡ 0
+  pub views-too-many : (s : Setting) → from ≡ accepted s → (n : ℕ) → Number s (WorldView s) n → length before / 2 < 6 + 4 * n
       → (r ≡ 9 * 65536 + n) × (n < 65536)
   -- "Every lent buffer holds what it held."
   pub refused-keeps : (r ≡ 0 → ⊥) → after ≡ before
 
 -- ---- proofs
--- The two hypotheses are what the call ensures.
-module _ (sheet : List ℕ) (r : ℕ) (before after : List ℕ)
-    (answers : r ≡ deskNumber (deskCall sheet (length before)))
-    (leaves : after ≡ afterwards deskBytes (deskCall sheet (length before)) before) where
+-- The hypotheses: the source is within the limits, and what the call ensures.
+module _ (from : Returned Setting) (bounded : Bounded from) (r : ℕ) (before after : List ℕ)
+    (answers : r ≡ deskNumber (deskCall from (length before)))
+    (leaves : after ≡ afterwards deskBytes (deskCall from (length before)) before) where
   -- what 0 says, and what another number
-  zero-accepted : (q : Returned Result) → deskCall sheet (length before) ≡ q → r ≡ 0 → (v : Result) × (deskCall sheet (length before) ≡ accepted v)
+  zero-accepted : (q : Returned Result) → deskCall from (length before) ≡ q → r ≡ 0 → (v : Result) × (deskCall from (length before) ≡ accepted v)
   zero-accepted (accepted v) e z = (v, e)
   zero-accepted (refusal number place) e z =
-      let (low, _, _) = refused-small deskNeed sheet (length before / 2) number place e in
+      let (low, _) = refused-small bounded (length before / 2) number place deskNeed e in
       let d : 0 ≡ number * 65536 + place = sym z ∙ answers ∙ ap deskNumber e in
       absurd (omega arith)
 
-  written : (t : Tally) (v : Result) → deskCall sheet (length before) ≡ accepted v → v .tally ≡ t → DeskWritten sheet t before after
+  written : (t : Tally) (v : Result) → deskCall from (length before) ≡ accepted v → v .tally ≡ t → DeskWritten from t before after
   written t v d told =
-      let (s, h, same, fit) = result-says deskNeed sheet (length before / 2) d in
+      let (s, h, same, fit) = result-says deskNeed from (length before / 2) d in
       let is : tallyOf s ≡ t = sym (ap (λ z. z .tally) same) ∙ told in
       let ws = six (tallyOf s) ++ words (listing s) in
       let left : after ≡ bytesOf ws ++ drop (length (bytesOf ws)) before =
@@ -71,7 +71,7 @@ module _ (sheet : List ℕ) (r : ℕ) (before after : List ℕ)
       let size : length (bytesOf ws) ≡ 2 * (6 + 4 * t .views) = bytes-long ws ∙ omega (arith, words-long (listing s), long) in
       record {
         of = s;
-        sheet-of = h;
+        accepts = h;
         counts = ap (take 6) inside ∙ ap six is;
         tally = subst (TallyOf s) is (tally-of s);
         records = subst (λ n. RecordsOf s n (drop 6 (wordsIn after))) long
@@ -80,24 +80,24 @@ module _ (sheet : List ℕ) (r : ℕ) (before after : List ℕ)
         fits = omega (arith, fit, long);
       }
 
-  kept : (q : Returned Result) → deskCall sheet (length before) ≡ q → (r ≡ 0 → ⊥) → after ≡ before
+  kept : (q : Returned Result) → deskCall from (length before) ≡ q → (r ≡ 0 → ⊥) → after ≡ before
   kept (accepted v) e n = absurd (n (answers ∙ ap deskNumber e))
   kept (refusal number place) e n = leaves ∙ ap (λ q. afterwards deskBytes q before) e
 
-  refused-so : (number place : ℕ) → deskCall sheet (length before) ≡ refusal number place → (r ≡ number * 65536 + place) × (1 ≤ number) × (place < 65536)
+  refused-so : (number place : ℕ) → deskCall from (length before) ≡ refusal number place → (r ≡ number * 65536 + place) × (1 ≤ number) × (place < 65536)
   refused-so number place e =
-      let (low, _, small) = refused-small deskNeed sheet (length before / 2) number place e in
+      let (low, small) = refused-small bounded (length before / 2) number place deskNeed e in
       (answers ∙ ap deskNumber e, low, small)
 
-  pub desk-demand : DeskDemand sheet r before after
+  pub desk-demand : DeskDemand from r before after
   desk-demand = record {
     listing-written = λ z. let (v, d) = zero-accepted _ refl z in (v .tally, written (v .tally) v d refl);
-    sheet-refused = λ number place e. refused-so number place (list-refused deskNeed sheet (length before / 2) number place .1 (inl e));
+    refused-before = λ number place e. refused-so number place (list-refused deskNeed from (length before / 2) number place .1 (inl e));
     views-fit = λ s h n m l.
-        answers ∙ ap deskNumber (result-given deskNeed sheet (length before / 2) h
+        answers ∙ ap deskNumber (result-given deskNeed from (length before / 2) h
         ∙ fits-limited _ (length before / 2) _ (resultOf s) (subst (λ z. 6 + 4 * z ≤ length before / 2) (listing-many s m) l));
     views-too-many = λ s h n m l.
-        let (e, _, small) = refused-so 9 n (result-given deskNeed sheet (length before / 2) h
+        let (e, _, small) = refused-so 9 n (result-given deskNeed from (length before / 2) h
         ∙ short-limited _ (length before / 2) _ (resultOf s) (subst (λ z. length before / 2 < 6 + 4 * z) (listing-many s m) l)
         ∙ ap (refusal 9) (sym (listing-many s m))) in
         (e, small);

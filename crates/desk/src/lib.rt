@@ -6,6 +6,7 @@ use engine::list;
 use words::write_listing;
 ghost use mathlib.Core.Path.{_≡_};
 ghost use lib.ListN.{length};
+ghost use Rattle.semantics.specs.Definitions.Check.{ofSheet};
 ghost use Rattle.semantics.specs.Definitions.Returned.{afterwards};
 ghost use Rattle.semantics.specs.Definitions.Desk.{deskCall, deskNumber, deskBytes};
 ghost use Rattle.desk.specs.Demand3.{DeskDemand};
@@ -14,9 +15,9 @@ ghost use Rattle.desk.specs.Demand3.{DeskDemand};
 // plus its place: 1 to 7, then 9.
 #[no_mangle]
 pub extern "C" fn budkarv_list(sheet: &[u8], out: &mut [u8]) -> u32
-    ensures { λ r. ⌜ r ≡ deskNumber (deskCall (now (sheet .entry)) (length (now (out .entry)))) ⌝ }
-    ensures { λ r. ⌜ now (out .exit) ≡ afterwards deskBytes (deskCall (now (sheet .entry)) (length (now (out .entry)))) (now (out .entry)) ⌝ }
-    ensures { λ r. ⌜ DeskDemand (now (sheet .entry)) r (now (out .entry)) (now (out .exit)) ⌝ }
+    ensures { λ r. ⌜ r ≡ deskNumber (deskCall (ofSheet (now (sheet .entry))) (length (now (out .entry)))) ⌝ }
+    ensures { λ r. ⌜ now (out .exit) ≡ afterwards deskBytes (deskCall (ofSheet (now (sheet .entry))) (length (now (out .entry)))) (now (out .entry)) ⌝ }
+    ensures { λ r. ⌜ DeskDemand (ofSheet (now (sheet .entry))) r (now (out .entry)) (now (out .exit)) ⌝ }
 {
     // four words for each of at most 4,096 views
     let mut records = [0u16; 16384];

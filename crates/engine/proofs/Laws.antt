@@ -1,146 +1,115 @@
 -- What the calls return, from what the steps of the code answer. Assumes nothing.
 use Prim.Native.Nat.{ℕ, _*_, _^_, _≤_, _<_}
-use mathlib.Core.Path.{_≡_, refl, sym, ap, _∙_, subst}
+use mathlib.Core.Path.{_≡_, sym, ap, _∙_, subst}
 use mathlib.Core.Bool.{Bool, true, false, not}
-use mathlib.Core.Logic.{inl, inr}
+use mathlib.Core.Logic.{inl}
 use mathlib.Core.List.{List}
 use native.Mathlib.Omega.{arith}
 use lib.ListN.{length}
 use lib.Pow.{pow-mono}
 use Rattle.sets.specs.Lists.{every}
 use Rattle.sets.specs.Sets.{_∈?_}
-use Rattle.semantics.specs.Definitions.Reading.{Reading, field}
-use Rattle.semantics.specs.Definitions.Sheet.{Sheet, byteAt}
+use Rattle.semantics.specs.Definitions.Sheet.{byteAt}
 use Rattle.semantics.specs.Definitions.Setting.{Setting, k}
-use Rattle.semantics.specs.Definitions.Check.{mostNegations, setting, opened, check}
-use Rattle.semantics.specs.Definitions.Returned.{Returned, accepted, refusal, returned, answer, written, afterwards}
-use Rattle.semantics.specs.Definitions.Listing.{Tally, View}
-use Rattle.semantics.specs.Definitions.Calls.{openedBelow, openedFor, openedForAtom, verdictCall, setsInto, beliefSetsCall, Result, resultOf, resultInto, recordsNeed, listCall, recordsOf, queryCall}
+use Rattle.semantics.specs.Definitions.Check.{mostNegations, check}
+use Rattle.semantics.specs.Definitions.Returned.{Returned, accepted, refusal, answer, written, afterwards}
+use Rattle.semantics.specs.Definitions.Verdict.{verdict, beliefSets}
+use Rattle.semantics.specs.Definitions.Listing.{Tally, tallyOf, View, listing}
+use Rattle.semantics.specs.Definitions.Calls.{forGuess, forAtom, verdictCall, setsInto, beliefSetsCall, Result, resultOf, resultInto, recordsNeed, listCall, recordsOf, queryCall}
 use Rattle.semantics.specs.Definitions.Query.{Yes, No, Open, answerBy}
 use Rattle.semantics.specs.Theorems.Layout.{places-bytes}
 use Rattle.semantics.specs.Theorems.Returned.{fits-limited, short-limited}
-use Rattle.semantics.specs.Theorems.Below.{BelowOf, opened-below, refused-below}
-use Rattle.semantics.specs.Theorems.Calls.{verdict-is, sets-given}
-use Rattle.semantics.specs.Theorems.ListCall.{result-given}
-use Rattle.semantics.specs.Theorems.QueryCall.{query-is}
-use Rattle.sheet.specs.declared.Contents.{Contents}
-use Rattle.sheet.specs.declared.Opened.the-variants.{Accepted, Refused}
-use Rattle.sheet.specs.Opened.{contents, openedOf, opened-as, opened-refused}
-use Rattle.guess.specs.Accepted.{few-opened, few-negations}
+use Rattle.semantics.specs.Theorems.Calls.{GuessOf, for-guess-accepted, verdict-refused, verdict-is, sets-given, sets-refused}
+use Rattle.semantics.specs.Theorems.ListCall.{result-given, list-refused}
+use Rattle.semantics.specs.Theorems.QueryCall.{AtomOf, for-atom-accepted, query-refused, query-is}
+use Rattle.guess.specs.declared.outline.Outline.{Outline}
+use Rattle.guess.specs.Programs.{settingIn, Outlines}
 use Rattle.verdict.specs.declared.Verdict.{Verdict as Answer}
-use Rattle.verdict.specs.Verdicts.{verdictOf, BeliefSets, VerdictOn}
-use Rattle.listing.specs.Walks.{ListingOf}
+use Rattle.verdict.specs.Verdicts.{verdictOf}
+use Rattle.engine.specs.declared.source.Source.{Source}
+use Rattle.engine.specs.declared.source.Source.the-variants.{Accepted, Refused}
 use Rattle.engine.specs.declared.Checked.{Checked}
 use Rattle.engine.specs.declared.Judged.{Judged}
 use Rattle.engine.specs.declared.Counted.{Counted}
 use Rattle.engine.specs.declared.Listed.{Listed}
 use Rattle.engine.specs.declared.Queried.{Queried}
 use Rattle.engine.specs.Answers.{checked, judged, counted, listed, queried}
+use Rattle.engine.specs.Sources.{Reads, Within}
 use Rattle.engine.specs.Demand1.{CheckDemand, check-demand}
 use Rattle.engine.specs.Demand2.{VerdictDemand, verdict-demand, SetsDemand, sets-demand}
 use Rattle.engine.specs.Demand3.{ListingDemand, listing-demand}
 use Rattle.engine.specs.Queries.{QueryDemand, query-demand}
 
--- ---- a sheet opened for a guess or an atom
--- its bound, which the code has from what is kept of the sheet, and its refusal
-pub record Limit : Type 0 where
-  pub bound : Setting → ℕ
-  pub kept : Contents → ℕ
-  pub same : (x : Sheet) → kept (contents x) ≡ bound (setting x)
-  pub number : ℕ
+-- ---- what was read
+module _ (from : Returned Setting) (words : List ℕ) where
+  pub within : (r : Source) → Reads from r words → Within r
+  within (Accepted x) h = h .0 .few-negations
+  within (Refused number place) h = tt
 
-abbrev pub forGuess : Limit
-forGuess = record { bound = λ s. 2 ^ k s; kept = λ x. 2 ^ x .negations; same = λ x. refl; number = 8 }
+  pub reads-accepted : (r : Source) {x : Outline} → Reads from r words → r ≡ Accepted x → Outlines x words × (from ≡ accepted (settingIn x words))
+  reads-accepted r h e = subst (λ z. Reads from z words) e h
 
-abbrev pub forAtom : Limit
-forAtom = record { bound = λ s. s .atoms; kept = λ x. x .atoms; same = λ x. refl; number = 10 }
+  pub outlined : (r : Source) {x : Outline} → Reads from r words → r ≡ Accepted x → Outlines x words
+  outlined r h e = reads-accepted r h e .0
 
-module _ (l : Limit) (s : List ℕ) (n : ℕ) where
-  abbrev openedHere : Reading Sheet
-  openedHere = openedBelow (l .bound) (l .number) s n
+  pub reads-refused : (r : Source) {number place : ℕ} → Reads from r words → r ≡ Refused number place → from ≡ refusal number place
+  reads-refused r h e = subst (λ z. Reads from z words) e h
 
-  pub still-refused : {m place : ℕ} → openedOf (opened s) ≡ Refused m place → Refused m place ≡ openedOf openedHere
-  still-refused {m} {place} e = sym (ap openedOf (refused-below (l .bound) (l .number) s n m place .1 (inl (opened-refused (opened s) e))))
+-- ---- a call for a guess: r is what was read, with the guess judged
+module _ (from : Returned Setting) (g : ℕ) (words : List ℕ) (r : Source) (h : Reads (forGuess from g) r words) where
+  module _ {x : Outline} (told : r ≡ Accepted x) where
+    outlines : Outlines x words
+    outlines = outlined (forGuess from g) words r h told
 
-  module _ {x : Contents} (e : openedOf (opened s) ≡ Accepted x) where
-    pub not-below : l .kept x ≤ n → Refused (l .number) 0 ≡ openedOf openedHere
-    not-below h =
-        let (y, end, d, same) = opened-as (opened s) e in
-        let high = subst (λ b. b ≤ n) (ap (l .kept) same ∙ l .same y) h in
-        sym (ap openedOf (refused-below (l .bound) (l .number) s n (l .number) 0 .1 (inr (y, end, d, high, refl, refl))))
+    guess-of : GuessOf from g (settingIn x words)
+    guess-of = for-guess-accepted from g _ .0 (reads-accepted (forGuess from g) words r h told .1)
 
-    pub below : n < l .kept x → Accepted x ≡ openedOf openedHere
-    below h =
-        let (y, end, d, same) = opened-as (opened s) e in
-        let low = subst (λ b. n < b) (ap (l .kept) same ∙ l .same y) h in
-        ap Accepted same ∙ sym (ap openedOf (opened-below (l .bound) (l .number) s n y end .1 (d, low)))
-
-  -- what is returned where the sheet is not opened
-  pub turned-back : {A : Type 0} (of : Sheet → Returned A) {m place : ℕ} → openedOf openedHere ≡ Refused m place → refusal m place ≡ returned openedHere of
-  turned-back of e = sym (ap (λ r. returned r of) (opened-refused openedHere e))
-
-  -- and where it is
-  module _ {x : Contents} (e : openedOf openedHere ≡ Accepted x) where
-    pub says : (y : Sheet) × (end : ℕ) × (opened s ≡ field y end) × BelowOf (l .bound) s n (setting y) × (x ≡ contents y)
-    says =
-        let (y, end, d, same) = opened-as openedHere e in
-        let (o, low) = opened-below (l .bound) (l .number) s n y end .0 d in
-        (y, end, o, record { of = record { says = y; end = end; accepts = o; means = refl }; below = low }, same)
-
-    pub opened-too : openedOf (opened s) ≡ Accepted x
-    opened-too =
-        let (y, end, d, _, same) = says in
-        ap openedOf d ∙ ap Accepted (sym same)
-
-    pub is-below : n < l .kept x
-    is-below =
-        let (y, end, _, h, same) = says in
-        subst (λ b. n < b) (sym (ap (l .kept) same ∙ l .same y)) (h .below)
-
--- ---- a sheet opened for a guess
-module _ (s : List ℕ) (g : ℕ) where
-  module _ {x : Contents} (e : openedOf (openedFor s g) ≡ Accepted x) where
-    -- a guess of an accepted sheet fits a word
+    -- a guess fits a word
     pub guess-fits : g < 65536
-    unfolding openedFor
     guess-fits =
-        let l = is-below forGuess s g e in
-        let most : 2 ^ x .negations ≤ 2 ^ mostNegations = pow-mono (few-negations s x (opened-too forGuess s g e)) in
+        let l = guess-of .below in
+        let most : 2 ^ k (settingIn x words) ≤ 2 ^ mostNegations = pow-mono (subst (λ n. n ≤ mostNegations) (outlines .counted) (outlines .few-negations)) in
         omega (arith, l, most)
 
-    pub judged-as : {v u : Answer} → VerdictOn s g (verdictOf v) → v ≡ u → accepted (verdictOf u) ≡ verdictCall s g
-    unfolding openedFor
-    judged-as judged told =
-        let (y, end, d, h, _) = says forGuess s g e in
-        ap (λ z. accepted (verdictOf z)) (sym told) ∙ ap accepted (judged y end d) ∙ sym (verdict-is s g h)
+    pub judged-as : {v u : Answer} → verdictOf v ≡ verdict (settingIn x words) g → v ≡ u → accepted (verdictOf u) ≡ verdictCall from g
+    judged-as is same = ap (λ z. accepted (verdictOf z)) (sym same) ∙ ap accepted is ∙ sym (verdict-is from g guess-of)
 
-    module _ (w : List ℕ) (believed : BeliefSets s g w) (words : ℕ) where
-      returns : beliefSetsCall s g words ≡ setsInto words w
-      unfolding openedFor
-      returns =
-          let (y, end, d, h, _) = says forGuess s g e in
-          sets-given s g words h ∙ ap (setsInto words) (sym (believed y end d))
+    module _ (w : List ℕ) (believed : w ≡ beliefSets (settingIn x words) g) (room : ℕ) where
+      returns : beliefSetsCall from g room ≡ setsInto room w
+      returns = sets-given from g room guess-of ∙ ap (setsInto room) (sym believed)
 
-      pub sets-returned : length w ≤ words → beliefSetsCall s g words ≡ accepted w
-      sets-returned h = returns ∙ fits-limited _ words _ w h
+      pub sets-returned : length w ≤ room → beliefSetsCall from g room ≡ accepted w
+      sets-returned l = returns ∙ fits-limited _ room _ w l
 
-      pub too-short : words < length w → beliefSetsCall s g words ≡ refusal 9 (length w)
-      too-short h = returns ∙ short-limited _ words _ w h
+      pub too-short : room < length w → beliefSetsCall from g room ≡ refusal 9 (length w)
+      too-short l = returns ∙ short-limited _ room _ w l
 
--- ---- a sheet opened for an atom
-module _ (s : List ℕ) (a : ℕ) {x : Contents} (e : openedOf (openedForAtom s a) ≡ Accepted x) where
-  -- a number of an atom
-  pub is-atom : a < 16
-  unfolding openedForAtom
-  is-atom = let l = is-below forAtom s a e in
-      omega (arith, l, few-opened s x (opened-too forAtom s a e) .0)
+  module _ {number place : ℕ} (told : r ≡ Refused number place) where
+    turned-back : forGuess from g ≡ refusal number place
+    turned-back = reads-refused (forGuess from g) words r h told
 
-  pub answers-query : (t : Tally) (vs : List View) → ListingOf s t vs → accepted (answerBy vs a) ≡ queryCall s a
-  unfolding openedForAtom
-  answers-query t vs whole =
-      let (y, end, d, h, _) = says forAtom s a e in
-      ap (λ z. accepted (answerBy z a)) (whole y end d .1)
-      ∙ sym (query-is s a h)
+    pub verdict-turned-back : refusal number place ≡ verdictCall from g
+    verdict-turned-back = sym (verdict-refused from g number place .1 turned-back)
+
+    pub sets-turned-back : (room : ℕ) → beliefSetsCall from g room ≡ refusal number place
+    sets-turned-back room = sets-refused from g room number place .1 (inl turned-back)
+
+-- ---- the query of an atom: r is what was read, with the atom judged
+module _ (from : Returned Setting) (a : ℕ) (words : List ℕ) (r : Source) (h : Reads (forAtom from a) r words) where
+  module _ {x : Outline} (told : r ≡ Accepted x) where
+    atom-of : AtomOf from a (settingIn x words)
+    atom-of = for-atom-accepted from a _ .0 (reads-accepted (forAtom from a) words r h told .1)
+
+    -- a number of an atom
+    pub is-atom : a < 16
+    is-atom = omega (arith, atom-of .below, outlined (forAtom from a) words r h told .few-atoms)
+
+    pub answers-query : (vs : List View) → vs ≡ listing (settingIn x words) → accepted (answerBy vs a) ≡ queryCall from a
+    answers-query vs whole =
+        ap (λ z. accepted (answerBy z a)) whole ∙ sym (query-is from a atom-of)
+
+  pub query-turned-back : {number place : ℕ} → r ≡ Refused number place → refusal number place ≡ queryCall from a
+  query-turned-back told = sym (query-refused from a _ _ .1 (reads-refused (forAtom from a) words r h told))
 
 -- the answer by the two tests of the records
 module _ (vs : List View) (a : ℕ) where
@@ -162,23 +131,25 @@ module _ (vs : List View) (a : ℕ) where
   unfolding answerBy
   answers-open e n = rw (sym e, sym n)
 
--- ---- the listing of a sheet that is opened
-module _ (s : List ℕ) {x : Contents} (e : openedOf (opened s) ≡ Accepted x) (t : Tally) (vs : List View) (whole : ListingOf s t vs) (words : ℕ) where
-  abbrev pub found : Result
-  found = record { tally = t; views = vs }
+-- ---- the listing: r is what was read
+module _ (from : Returned Setting) (words : List ℕ) (r : Source) (h : Reads from r words) (room : ℕ) where
+  module _ {x : Outline} (told : r ≡ Accepted x) (t : Tally) (vs : List View) (counts : t ≡ tallyOf (settingIn x words)) (views : vs ≡ listing (settingIn x words)) where
+    abbrev pub found : Result
+    found = record { tally = t; views = vs }
 
-  lists : listCall s words ≡ resultInto recordsNeed words found
-  lists =
-      let (y, end, d, _) = opened-as (opened s) e in
-      let (a, b) = whole y end d in
-      let same : found ≡ resultOf (setting y) = λ i. record { tally = a i; views = b i } in
-      result-given recordsNeed s words (record { says = y; end = end; accepts = d; means = refl }) ∙ ap (resultInto recordsNeed words) (sym same)
+    lists : listCall from room ≡ resultInto recordsNeed room found
+    lists =
+        let same : found ≡ resultOf (settingIn x words) = λ i. record { tally = counts i; views = views i } in
+        result-given recordsNeed from room (reads-accepted from words r h told .1) ∙ ap (resultInto recordsNeed room) (sym same)
 
-  pub list-returned : 4 * length vs ≤ words → listCall s words ≡ accepted found
-  list-returned h = lists ∙ fits-limited _ words _ found h
+    pub list-returned : 4 * length vs ≤ room → listCall from room ≡ accepted found
+    list-returned l = lists ∙ fits-limited _ room _ found l
 
-  pub list-short : words < 4 * length vs → listCall s words ≡ refusal 9 (length vs)
-  list-short h = lists ∙ short-limited _ words _ found h
+    pub list-short : room < 4 * length vs → listCall from room ≡ refusal 9 (length vs)
+    list-short l = lists ∙ short-limited _ room _ found l
+
+  pub list-turned-back : {number place : ℕ} → r ≡ Refused number place → listCall from room ≡ refusal number place
+  list-turned-back told = list-refused recordsNeed from room _ _ .1 (inl (reads-refused from words r h told))
 
 -- ---- the answer and the lent buffer
 module _ {A B : Type 0} (of : A → B) (words : A → List ℕ) {r : Returned A} (buffer : List ℕ) where
@@ -192,20 +163,21 @@ module _ {A B : Type 0} (of : A → B) (words : A → List ℕ) {r : Returned A}
 pub check-met : (sheet : List ℕ) → ((i : ℕ) → byteAt sheet i < 256) → (r : Checked) → checked r ≡ check sheet → (checked r ≡ check sheet) × CheckDemand sheet r
 check-met sheet small r e = (e, check-demand sheet (places-bytes sheet small) r e)
 
-pub verdict-met : (sheet : List ℕ) (g : ℕ) (v : Judged) → judged v ≡ verdictCall sheet g → (judged v ≡ verdictCall sheet g) × VerdictDemand sheet g v
-verdict-met sheet g v e = (e, verdict-demand sheet g v e)
+module _ (from : Returned Setting) where
+  pub verdict-met : (g : ℕ) (v : Judged) → judged v ≡ verdictCall from g → (judged v ≡ verdictCall from g) × VerdictDemand from g v
+  verdict-met g v e = (e, verdict-demand from g v e)
 
-pub sets-met : (sheet : List ℕ) (g : ℕ) (before : List ℕ) (r : Counted) (after : List ℕ)
-    → (counted r ≡ answer length (beliefSetsCall sheet g (length before))) × (after ≡ afterwards (λ w. w) (beliefSetsCall sheet g (length before)) before)
-    → (counted r ≡ answer length (beliefSetsCall sheet g (length before)))
-    × ((after ≡ afterwards (λ w. w) (beliefSetsCall sheet g (length before)) before) × SetsDemand sheet g r before after)
-sets-met sheet g before r after p = (p .0, (p .1, sets-demand sheet g r before after (p .0) (p .1)))
+  pub sets-met : (g : ℕ) (before : List ℕ) (r : Counted) (after : List ℕ)
+      → (counted r ≡ answer length (beliefSetsCall from g (length before))) × (after ≡ afterwards (λ w. w) (beliefSetsCall from g (length before)) before)
+      → (counted r ≡ answer length (beliefSetsCall from g (length before)))
+      × ((after ≡ afterwards (λ w. w) (beliefSetsCall from g (length before)) before) × SetsDemand from g r before after)
+  sets-met g before r after p = (p .0, (p .1, sets-demand from g r before after (p .0) (p .1)))
 
-pub query-met : (sheet : List ℕ) (a : ℕ) (q : Queried) → queried q ≡ queryCall sheet a → (queried q ≡ queryCall sheet a) × QueryDemand sheet a q
-query-met sheet a q e = (e, query-demand sheet a q e)
+  pub query-met : (a : ℕ) (q : Queried) → queried q ≡ queryCall from a → (queried q ≡ queryCall from a) × QueryDemand from a q
+  query-met a q e = (e, query-demand from a q e)
 
-pub listing-met : (sheet before : List ℕ) (r : Listed) (after : List ℕ)
-    → (listed r ≡ answer (λ v. v .tally) (listCall sheet (length before))) × (after ≡ afterwards recordsOf (listCall sheet (length before)) before)
-    → (listed r ≡ answer (λ v. v .tally) (listCall sheet (length before)))
-    × ((after ≡ afterwards recordsOf (listCall sheet (length before)) before) × ListingDemand sheet r before after)
-listing-met sheet before r after p = (p .0, (p .1, listing-demand sheet r before after (p .0) (p .1)))
+  pub listing-met : (before : List ℕ) (r : Listed) (after : List ℕ)
+      → (listed r ≡ answer (λ v. v .tally) (listCall from (length before))) × (after ≡ afterwards recordsOf (listCall from (length before)) before)
+      → (listed r ≡ answer (λ v. v .tally) (listCall from (length before)))
+      × ((after ≡ afterwards recordsOf (listCall from (length before)) before) × ListingDemand from r before after)
+  listing-met before r after p = (p .0, (p .1, listing-demand from r before after (p .0) (p .1)))

@@ -1,2 +1,4 @@
--- What the proofs of the calls cite.
+-- What the proofs cite: what was read, checks of it, and what the calls return.
 pub mod Laws
+pub mod Checks
+pub mod Opened

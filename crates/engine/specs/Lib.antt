@@ -1,6 +1,7 @@
--- What the answers of the calls mean, and the demands that they meet.
+-- What the calls promise: what their answers mean, and the demands; and what the code has on the way.
 pub mod Answers
 pub mod Demand1
 pub mod Demand2
 pub mod Demand3
 pub mod Queries
+pub mod Sources

@@ -1,24 +1,28 @@
 // The calls sold: bytes in, answers out. No call has a `requires`, and each contract is the whole answer and every lent word for every
 // input.
+mod in_order;
 mod lent;
+mod source;
 
+use in_order::list_in_order;
 use lent::write;
 use listing::atoms::known_in_all;
 use listing::atoms::possible_in_none;
 use listing::records::write_records;
-use listing::walk;
-use sets::power;
 use sheet::Opened;
 use sheet::open;
+use source::Source;
+use source::for_atom;
+use source::for_guess;
+use source::of_sheet;
 use verdict::Verdict;
 use verdict::belief_sets as gather;
 use verdict::verdict_on;
 ghost use mathlib.Core.Path.{_≡_};
 ghost use lib.ListN.{length};
-ghost use Rattle.semantics.specs.Definitions.Check.{check as checkOf};
+ghost use Rattle.semantics.specs.Definitions.Check.{check as checkOf, ofSheet};
 ghost use Rattle.semantics.specs.Definitions.Returned.{answer, afterwards};
-ghost use Rattle.semantics.specs.Definitions.Calls.{openedFor, openedForAtom, verdictCall, beliefSetsCall, listCall, recordsOf, queryCall};
-ghost use Rattle.sheet.specs.Opened.{openedOf};
+ghost use Rattle.semantics.specs.Definitions.Calls.{verdictCall, beliefSetsCall, listCall, recordsOf, queryCall};
 ghost use Rattle.engine.specs.Answers.{checked, judged, counted, listed, queried};
 ghost use Rattle.engine.specs.Demand1.{CheckDemand};
 ghost use Rattle.engine.specs.Demand2.{VerdictDemand, SetsDemand};
@@ -102,29 +106,17 @@ pub fn check(sheet: &[u8]) -> Checked
     }
 }
 
-// The sheet, opened for a guess: refusals 1 to 7, then 8.
-fn open_for(sheet: &[u8], guess: u32) -> Opened
-    ensures { λ r. ⌜ r ≡ openedOf (openedFor (now (sheet .entry)) guess) ⌝ }
-{
-    let opened = open(sheet);
-    let Opened::Accepted(x) = opened else {
-        return opened;
-    };
-    if power(x.negations as u16) as u32 <= guess {
-        return Opened::Refused(8, 0);
-    }
-    opened
-}
-
 // The verdict on a guess: refusals 1 to 8.
 pub fn verdict(sheet: &[u8], guess: u32) -> Judged
-    ensures { λ r. ⌜ judged r ≡ verdictCall (now (sheet .entry)) guess ⌝ }
-    ensures { λ r. ⌜ VerdictDemand (now (sheet .entry)) guess r ⌝ }
+    ensures { λ r. ⌜ judged r ≡ verdictCall (ofSheet (now (sheet .entry))) guess ⌝ }
+    ensures { λ r. ⌜ VerdictDemand (ofSheet (now (sheet .entry))) guess r ⌝ }
 {
-    match open_for(sheet, guess) {
-        Opened::Accepted(x) => {
+    let mut words = [0u16; 512];
+    let source = of_sheet(sheet, &mut words[..]);
+    match for_guess(source, guess) {
+        Source::Accepted(x) => {
             let mut room = [0u16; 32768];
-            match verdict_on(sheet, x, guess as u16, &mut room[..]) {
+            match verdict_on(&words[..], x, guess as u16, &mut room[..]) {
                 Verdict::Empty => Judged::Empty,
                 Verdict::Other(found) => Judged::Other { found },
                 Verdict::Verified(known, possible, sets) => Judged::Verified {
@@ -134,20 +126,22 @@ pub fn verdict(sheet: &[u8], guess: u32) -> Judged
                 },
             }
         }
-        Opened::Refused(number, place) => Judged::Refused { number, place },
+        Source::Refused(number, place) => Judged::Refused { number, place },
     }
 }
 
 // The belief sets of a guess, by rising number, into a lent buffer: refusals 1 to 8, then 9.
 pub fn belief_sets(sheet: &[u8], guess: u32, out: &mut [u16]) -> Counted
-    ensures { λ r. ⌜ counted r ≡ answer length (beliefSetsCall (now (sheet .entry)) guess (length (now (out .entry)))) ⌝ }
-    ensures { λ r. ⌜ now (out .exit) ≡ afterwards (λ w. w) (beliefSetsCall (now (sheet .entry)) guess (length (now (out .entry)))) (now (out .entry)) ⌝ }
-    ensures { λ r. ⌜ SetsDemand (now (sheet .entry)) guess r (now (out .entry)) (now (out .exit)) ⌝ }
+    ensures { λ r. ⌜ counted r ≡ answer length (beliefSetsCall (ofSheet (now (sheet .entry))) guess (length (now (out .entry)))) ⌝ }
+    ensures { λ r. ⌜ now (out .exit) ≡ afterwards (λ w. w) (beliefSetsCall (ofSheet (now (sheet .entry))) guess (length (now (out .entry)))) (now (out .entry)) ⌝ }
+    ensures { λ r. ⌜ SetsDemand (ofSheet (now (sheet .entry))) guess r (now (out .entry)) (now (out .exit)) ⌝ }
 {
-    match open_for(sheet, guess) {
-        Opened::Accepted(x) => {
+    let mut words = [0u16; 512];
+    let source = of_sheet(sheet, &mut words[..]);
+    match for_guess(source, guess) {
+        Source::Accepted(x) => {
             let mut room = [0u16; 32768];
-            let n = gather(sheet, x, guess as u16, &mut room[..]);
+            let n = gather(&words[..], x, guess as u16, &mut room[..]);
             if out.len() < n {
                 return Counted::Refused {
                     number: 9,
@@ -157,20 +151,21 @@ pub fn belief_sets(sheet: &[u8], guess: u32, out: &mut [u16]) -> Counted
             write(&room[..], n, &mut out[..]);
             Counted::Accepted { count: n }
         }
-        Opened::Refused(number, place) => Counted::Refused { number, place },
+        Source::Refused(number, place) => Counted::Refused { number, place },
     }
 }
 
 // The listing: a record of four words for each world view, in the order, into a lent buffer, and the six counts. Refusals 1 to 7, then 9.
 pub fn list(sheet: &[u8], out: &mut [u16]) -> Listed
-    ensures { λ r. ⌜ listed r ≡ answer (λ v. v .tally) (listCall (now (sheet .entry)) (length (now (out .entry)))) ⌝ }
-    ensures { λ r. ⌜ now (out .exit) ≡ afterwards recordsOf (listCall (now (sheet .entry)) (length (now (out .entry)))) (now (out .entry)) ⌝ }
-    ensures { λ r. ⌜ ListingDemand (now (sheet .entry)) r (now (out .entry)) (now (out .exit)) ⌝ }
+    ensures { λ r. ⌜ listed r ≡ answer (λ v. v .tally) (listCall (ofSheet (now (sheet .entry))) (length (now (out .entry)))) ⌝ }
+    ensures { λ r. ⌜ now (out .exit) ≡ afterwards recordsOf (listCall (ofSheet (now (sheet .entry))) (length (now (out .entry)))) (now (out .entry)) ⌝ }
+    ensures { λ r. ⌜ ListingDemand (ofSheet (now (sheet .entry))) r (now (out .entry)) (now (out .exit)) ⌝ }
 {
-    match open(sheet) {
-        Opened::Accepted(x) => {
+    let mut words = [0u16; 512];
+    match of_sheet(sheet, &mut words[..]) {
+        Source::Accepted(x) => {
             let mut records = [0u16; 16384];
-            let t = walk(sheet, x, &mut records[..]);
+            let t = list_in_order(&words[..], x, &mut records[..]);
             if out.len() < 4 * t.views {
                 return Listed::Refused {
                     number: 9,
@@ -187,33 +182,21 @@ pub fn list(sheet: &[u8], out: &mut [u16]) -> Listed
                 other: t.other,
             }
         }
-        Opened::Refused(number, place) => Listed::Refused { number, place },
+        Source::Refused(number, place) => Listed::Refused { number, place },
     }
-}
-
-// The sheet, opened for an atom: refusals 1 to 7, then 10.
-fn open_for_atom(sheet: &[u8], atom: u32) -> Opened
-    ensures { λ r. ⌜ r ≡ openedOf (openedForAtom (now (sheet .entry)) atom) ⌝ }
-{
-    let opened = open(sheet);
-    let Opened::Accepted(x) = opened else {
-        return opened;
-    };
-    if x.atoms <= atom as usize {
-        return Opened::Refused(10, 0);
-    }
-    opened
 }
 
 // The query of an atom: refusals 1 to 7, then 10.
 pub fn query(sheet: &[u8], atom: u32) -> Queried
-    ensures { λ r. ⌜ queried r ≡ queryCall (now (sheet .entry)) atom ⌝ }
-    ensures { λ r. ⌜ QueryDemand (now (sheet .entry)) atom r ⌝ }
+    ensures { λ r. ⌜ queried r ≡ queryCall (ofSheet (now (sheet .entry))) atom ⌝ }
+    ensures { λ r. ⌜ QueryDemand (ofSheet (now (sheet .entry))) atom r ⌝ }
 {
-    match open_for_atom(sheet, atom) {
-        Opened::Accepted(x) => {
+    let mut words = [0u16; 512];
+    let source = of_sheet(sheet, &mut words[..]);
+    match for_atom(source, atom) {
+        Source::Accepted(x) => {
             let mut records = [0u16; 16384];
-            let t = walk(sheet, x, &mut records[..]);
+            let t = list_in_order(&words[..], x, &mut records[..]);
             if known_in_all(&records[..], t.views, atom as u16) {
                 return Queried::Yes;
             }
@@ -222,6 +205,6 @@ pub fn query(sheet: &[u8], atom: u32) -> Queried
             }
             Queried::Open
         }
-        Opened::Refused(number, place) => Queried::Refused { number, place },
+        Source::Refused(number, place) => Queried::Refused { number, place },
     }
 }

@@ -12,7 +12,7 @@ use Rattle.sets.specs.Members.{setOf-suc}
 use Rattle.semantics.specs.Definitions.Guesses.{Negation, not-known, may-be, numbered, assumed}
 use Rattle.semantics.specs.Definitions.Check.{mostNegations}
 use Rattle.semantics.specs.Definitions.Verdict.{foundHas}
-use Rattle.sheet.specs.declared.Contents.{Contents}
+use Rattle.guess.specs.declared.outline.Outline.{Outline}
 use Rattle.guess.specs.Negations.{negationsIn, negationsBy, Few}
 use Rattle.guess.proofs.Numbering.{next-number, assumed-k, assumed-m, found-k, found-m, number-fits}
 
@@ -20,7 +20,7 @@ pub at-most-one : {o : ℕ} (b : Bool) → o ≡ one b → o ≤ 1
 at-most-one true e = omega arith
 at-most-one false e = omega arith
 
-module _ (x : Contents) where
+module _ (x : Outline) where
   -- how many negations stand on the atoms before a
   abbrev before : ℕ → ℕ
   before a = length (negationsIn a (x .«k_atoms») (x .«m_atoms»))

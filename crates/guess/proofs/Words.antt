@@ -1,16 +1,16 @@
 -- A program in words, as it is written: one word, four words, one rule more. Assumes nothing.
 use Prim.Native.Nat.{ℕ, suc, _+_, _*_, _≤_, _<_}
-use mathlib.Core.Path.{_≡_, refl, sym, ap, _∙_}
-use mathlib.Core.List.{List, []}
+use mathlib.Core.Path.{_≡_, refl, _∙_}
+use mathlib.Core.List.{List}
 use mathlib.Core.Logic.{⊎-elim}
 use native.Mathlib.Omega.{arith}
 use native.Mathlib.Nat.{not-suc-le-zero}
 use lib.ListN.{length, take, getD, set, length-set}
-use lib.Seq.{getD-set-same, getD-set-other, take-set-le, getD-take}
+use lib.Seq.{getD-set-same, getD-set-other, take-set-le}
 use Rattle.sets.specs.Decides.{decided, dec-eq}
-use Rattle.sets.specs.Lists.{upTo, map-upTo-same}
+use Rattle.sets.specs.Lists.{map-upTo-same}
 use Rattle.sets.specs.Sets.{∅}
-use Rattle.semantics.specs.Words.{wordOf, ruleIn, programIn}
+use Rattle.semantics.specs.Words.{word-stays, wordOf, ruleIn, programIn}
 use Rattle.guess.specs.Acted.{Cleared}
 
 -- ---- word t of rule n is set
@@ -61,14 +61,8 @@ rules-stay : (words others : List ℕ) (n : ℕ) → take (4 * n) words ≡ take
 rules-stay words others n e j h = cc (word 0 (omega arith), word 1 (omega arith), word 2 (omega arith), word 3 (omega arith))
   where
     word : (i : ℕ) → i < 4 → wordOf words j i ≡ wordOf others j i
-    word i l =
-        let k : 4 * j + i < 4 * n = omega arith in
-        sym (getD-take (4 * n) words (4 * j + i) 0 k) ∙ ap (λ z. getD z (4 * j + i) 0) e ∙ getD-take (4 * n) others (4 * j + i) 0 k
+    word i l = word-stays (4 * n) words others e (4 * j + i) (omega arith)
 
 pub program-stays : (words others : List ℕ) (n : ℕ) → take (4 * n) words ≡ take (4 * n) others → programIn words n ≡ programIn others n
 unfolding programIn
 program-stays words others n e = map-upTo-same (ruleIn words) (ruleIn others) n (rules-stay words others n e)
-
-pub program-none : (words : List ℕ) → programIn words 0 ≡ []
-unfolding programIn upTo
-program-none words = refl

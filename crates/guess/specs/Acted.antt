@@ -8,9 +8,6 @@ use lib.ListN.{getD}
 use Rattle.sets.specs.Sets.{_meets?_, _∪_, _∖_, ∅}
 use Rattle.semantics.specs.Definitions.Rules.{Rule}
 use Rattle.semantics.specs.Words.{wordOf}
-use Rattle.semantics.specs.Definitions.Reading.{field}
-use Rattle.semantics.specs.Definitions.Sheet.{Sheet}
-use Rattle.semantics.specs.Definitions.Check.{setting, opened}
 use Rattle.guess.specs.declared.reduct.Acted.{Acted}
 use Rattle.guess.specs.declared.reduct.Acted.the-variants.{Join, Delete}
 
@@ -40,7 +37,3 @@ module _ (u p : ℕ) where
 -- the four words of rule n are empty sets
 abbrev pub Cleared : List ℕ → (n : ℕ) → Type 0
 Cleared words n = (i : ℕ) → i < 4 → wordOf words n i ≡ ∅
-
--- p is the reduct of the guess, for the sheet that the bytes say
-abbrev pub ReductOf : List ℕ → (guess : ℕ) → List Rule → Type 0
-ReductOf s g p = (x : Sheet) (end : ℕ) → opened s ≡ field x end → p ≡ setting x .program g

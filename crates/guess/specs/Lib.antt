@@ -1,5 +1,6 @@
--- What the code of a guess means, and what that is for an accepted sheet.
+-- A program with K and M as the code holds it, and what the code of a guess means for it.
+pub mod Programs
 pub mod Negations
 pub mod Acted
-pub mod Accepted
+pub mod Numbered
 pub mod Settings

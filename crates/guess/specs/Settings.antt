@@ -4,21 +4,16 @@ use Prim.Native.Nat.{ℕ}
 use mathlib.Core.Path.{_≡_, refl, ap, _∙_}
 use mathlib.Core.List.{List}
 use Rattle.semantics.specs.Definitions.Rules.{Rule}
-use Rattle.semantics.specs.Definitions.Reading.{field}
-use Rattle.semantics.specs.Definitions.Sheet.{Sheet}
 use Rattle.semantics.specs.Definitions.Setting.{Setting}
-use Rattle.semantics.specs.Definitions.Check.{setting, opened}
 use Rattle.semantics.specs.Definitions.Verdict.{beliefSets, guessFound, verdict}
 use Rattle.semantics.specs.Definitions.Propagation.{contradicted}
-use Rattle.sheet.specs.declared.Contents.{Contents}
-use Rattle.sheet.specs.declared.Opened.the-variants.{Accepted}
-use Rattle.sheet.specs.Opened.{openedOf, opened-same}
+use Rattle.guess.specs.declared.outline.Outline.{Outline}
+use Rattle.guess.specs.Programs.{settingIn, Outlines}
 use Rattle.guess.specs.Negations.{negationsBy}
-use Rattle.guess.specs.Acted.{ReductOf}
-use Rattle.guess.specs.Accepted.{negations-by}
+use Rattle.guess.specs.Numbered.{negations-by}
 
 -- a guess whose reduct is p
-abbrev pub settingBy : Contents → List Rule → Setting
+abbrev pub settingBy : Outline → List Rule → Setting
 settingBy x p = record { atoms = x .atoms; negations = negationsBy x; program = λ _. p }
 
 -- a setting, for the guess g alone
@@ -33,16 +28,13 @@ contradicted-alone : (s : Setting) (g : ℕ) → contradicted (alone s g) g ≡ 
 unfolding contradicted
 contradicted-alone s g = refl
 
--- of an accepted sheet
-module _ (s : List ℕ) (x : Contents) (accepted : openedOf (opened s) ≡ Accepted x) (g : ℕ) (p : List Rule) (reduct : ReductOf s g p)
-    (y : Sheet) (end : ℕ) (e : opened s ≡ field y end) where
-  same : settingBy x p ≡ alone (setting y) g
-  same =
-      ap (λ z. settingBy z p) (opened-same (opened s) accepted e)
-      ∙ λ i. record { atoms = setting y .atoms; negations = negations-by y i; program = λ _. reduct y end e i }
+-- of rules in words, with their outline
+module _ {x : Outline} {words : List ℕ} (o : Outlines x words) (g : ℕ) {p : List Rule} (reduct : p ≡ settingIn x words .program g) where
+  same : settingBy x p ≡ alone (settingIn x words) g
+  same i = record { atoms = x .atoms; negations = negations-by o i; program = λ _. reduct i }
 
-  pub verdict-by : verdict (settingBy x p) g ≡ verdict (setting y) g
-  verdict-by = ap (λ z. verdict z g) same ∙ verdict-alone (setting y) g
+  pub verdict-by : verdict (settingBy x p) g ≡ verdict (settingIn x words) g
+  verdict-by = ap (λ z. verdict z g) same ∙ verdict-alone (settingIn x words) g
 
-  pub contradicted-by : contradicted (settingBy x p) g ≡ contradicted (setting y) g
-  contradicted-by = ap (λ z. contradicted z g) same ∙ contradicted-alone (setting y) g
+  pub contradicted-by : contradicted (settingBy x p) g ≡ contradicted (settingIn x words) g
+  contradicted-by = ap (λ z. contradicted z g) same ∙ contradicted-alone (settingIn x words) g

@@ -1,7 +1,7 @@
 // The epistemic negations by number: "not K a" before "M a", atom after atom.
+use super::outline::Outline;
 use sets::include;
 use sets::member;
-use sheet::Contents;
 ghost use mathlib.Core.Path.{_≡_};
 ghost use mathlib.Core.Bool.{cond};
 ghost use Rattle.guess.specs.Negations.{Few, assumedBy, foundBy};
@@ -23,7 +23,7 @@ fn one_if(yes: bool) -> u16
 }
 
 // What a guess assumes, atom by atom.
-pub fn assumed(x: Contents, guess: u16) -> Assumptions
+pub fn assumed(x: Outline, guess: u16) -> Assumptions
     requires { ⌜ Few x ⌝ }
     ensures { λ r. ⌜ r ≡ assumedBy x guess ⌝ }
 {
@@ -48,7 +48,7 @@ pub fn assumed(x: Contents, guess: u16) -> Assumptions
 }
 
 // The guess found: it has "not K a" where a is not known, and "M a" where a is possible.
-pub fn found(x: Contents, known: u16, possible: u16) -> u16
+pub fn found(x: Outline, known: u16, possible: u16) -> u16
     requires { ⌜ Few x ⌝ }
     ensures { λ r. ⌜ r ≡ foundBy x known possible ⌝ }
 {

@@ -1,23 +1,16 @@
 // The reduct of a guess, in words, four a rule.
 use super::negations::Assumptions;
 use super::negations::assumed;
+use super::outline::Outline;
 use sets::meets;
 use sets::minus;
-use sheet::Contents;
-use sheet::Fetched;
-use sheet::fetch;
-use sheet::mask_of;
 ghost use mathlib.Core.Path.{_≡_};
 ghost use mathlib.Core.Bool.{true, not};
 ghost use Prim.Native.Nat.{_+_, _*_, _<_, _≤_};
 ghost use lib.ListN.{length, take};
-ghost use Rattle.semantics.specs.Words.{ruleIn, programIn};
-ghost use Rattle.semantics.specs.Fields.{ruleFrom};
-ghost use Rattle.semantics.specs.Definitions.Sheet.{mostRules};
-ghost use Rattle.semantics.specs.Definitions.Check.{opened};
-ghost use Rattle.sheet.specs.declared.Opened.the-variants.{Accepted};
-ghost use Rattle.sheet.specs.Opened.{openedOf};
-ghost use Rattle.guess.specs.Acted.{actedOn, deletedBy, reducedBy, Cleared, ReductOf};
+ghost use Rattle.semantics.specs.Words.{programRoom, masksIn, ruleIn, programIn};
+ghost use Rattle.guess.specs.Programs.{settingIn, Outlines};
+ghost use Rattle.guess.specs.Acted.{actedOn, deletedBy, reducedBy, Cleared};
 
 // What is done to a mask of a rule: its literals, or those that are not removed, join one of the four masks of the reduct; or the rule is
 // deleted.
@@ -64,18 +57,18 @@ fn clear(out: &mut [u16], n: usize)
     out[at + 3] = 0;
 }
 
-// The rule at a place becomes rule n of the reduct, if it is not deleted; says whether it stays.
-fn reduce(s: &[u8], place: usize, by: Assumptions, out: &mut [u16], n: usize) -> bool
-    requires { ⌜ (place + 16 ≤ length (now s)) × (4 * n + 4 ≤ length (now out)) ⌝ }
+// Rule j of the words becomes rule n of the reduct, if it is not deleted; says whether it stays.
+fn reduce(words: &[u16], j: usize, by: Assumptions, out: &mut [u16], n: usize) -> bool
+    requires { ⌜ (8 * j + 8 ≤ length (now words)) × (4 * n + 4 ≤ length (now out)) ⌝ }
     ensures { λ r. ⌜ length (now (out .exit)) ≡ length (now (out .entry)) ⌝ }
     ensures { λ r. ⌜ take (4 * n) (now (out .exit)) ≡ take (4 * n) (now (out .entry)) ⌝ }
-    ensures { λ r. ⌜ r ≡ not (deletedBy (by .unknown) (by .maybe) (ruleFrom (now (s .entry)) place)) ⌝ }
-    ensures { λ r. ⌜ (r ≡ true → ruleIn (now (out .exit)) n ≡ reducedBy (by .unknown) (by .maybe) (ruleFrom (now (s .entry)) place)) ⌝ }
+    ensures { λ r. ⌜ r ≡ not (deletedBy (by .unknown) (by .maybe) (masksIn (now (words .entry)) j)) ⌝ }
+    ensures { λ r. ⌜ (r ≡ true → ruleIn (now (out .exit)) n ≡ reducedBy (by .unknown) (by .maybe) (masksIn (now (words .entry)) j)) ⌝ }
 {
     clear(&mut out[..], n);
     let mut i = 0;
     while i < 8 {
-        let acted = act(i, mask_of(s, place, i), by);
+        let acted = act(i, words[8 * j + i], by);
         let Acted::Join(to, mask) = acted else {
             return false;
         };
@@ -86,25 +79,21 @@ fn reduce(s: &[u8], place: usize, by: Assumptions, out: &mut [u16], n: usize) ->
     true
 }
 
-// Writes the reduct of a guess, of an opened sheet, and says how many rules it has. The rules that are deleted are left out.
-pub fn reduct(s: &[u8], x: Contents, guess: u16, out: &mut [u16]) -> usize
-    requires { ⌜ (openedOf (opened (now s)) ≡ Accepted x) × (4 * mostRules ≤ length (now out)) ⌝ }
+// Writes the reduct of a guess, and says how many rules it has. The rules that are deleted are left out.
+pub fn reduct(words: &[u16], x: Outline, guess: u16, out: &mut [u16]) -> usize
+    requires { ⌜ Outlines x (now words) × (4 * programRoom ≤ length (now out)) ⌝ }
     ensures { λ r. ⌜ length (now (out .exit)) ≡ length (now (out .entry)) ⌝ }
-    ensures { λ r. ⌜ r ≤ mostRules ⌝ }
-    ensures { λ r. ⌜ ReductOf (now (s .entry)) guess (programIn (now (out .exit)) r) ⌝ }
+    ensures { λ r. ⌜ r ≤ programRoom ⌝ }
+    ensures { λ r. ⌜ programIn (now (out .exit)) r ≡ settingIn x (now (words .entry)) .program guess ⌝ }
 {
     let by = assumed(x, guess);
-    let from = x.rules_at;
     let mut n = 0;
-    let mut number = 0;
-    loop {
-        let fetched = fetch(s, from, number);
-        let Fetched::Rule { place } = fetched else {
-            return n;
-        };
-        if reduce(s, place, by, &mut out[..], n) {
+    let mut j = 0;
+    while j < x.rules {
+        if reduce(words, j, by, &mut out[..], n) {
             n += 1;
         }
-        number += 1;
+        j += 1;
     }
+    n
 }

@@ -1,82 +1,91 @@
--- The walk along the constant list, entry by entry, and at its end. Assumes nothing.
+-- The walk along a list of guesses, entry by entry, and at its end. Assumes nothing.
 use Prim.Native.Nat.{ℕ, _+_, _^_, _≤_, _<_}
 use mathlib.Core.Path.{_≡_, refl, sym, ap, _∙_, subst}
-use mathlib.Core.Bool.{true, false}
-use mathlib.Core.List.{List, [], _∷_, _++_, append-nil}
+use mathlib.Core.List.{List, [], _∷_, _++_, append-nil, foldl}
 use native.Mathlib.Numerals.{add-one}
 use native.Mathlib.Omega.{arith}
 use borrow.Author.Tests.{lt-ltb, le-ltb}
 use lib.Dec.{ltb}
-use lib.ListN.{getD, take}
-use lib.Seq.{take-suc, take-all}
-use Rattle.sets.specs.Lists.{keep, only, keep-snoc, upTo}
-use Rattle.semantics.specs.Definitions.Reading.{field}
-use Rattle.semantics.specs.Definitions.Sheet.{Sheet}
-use Rattle.semantics.specs.Definitions.Setting.{k}
-use Rattle.semantics.specs.Definitions.Check.{mostNegations, setting, opened}
-use Rattle.semantics.specs.Definitions.Order.{order}
+use lib.ListN.{length, getD, take, drop, length-append, take-append-drop}
+use lib.Seq.{take-suc, take-length}
+use Rattle.sets.specs.Lists.{keep, only, keep-append, keep-snoc, upTo}
+use Rattle.semantics.specs.Definitions.Setting.{Setting, k}
+use Rattle.semantics.specs.Definitions.Order.{membersBelow}
 use Rattle.semantics.specs.Walk.{Walked, start, outcome, walk, advance}
-use Rattle.semantics.specs.Theorems.Order.{order-long, order-members, order-enumerates}
-use Rattle.semantics.specs.Theorems.Walk.{walk-more, walk-is}
-use Rattle.semantics.specs.Theorems.Accepted.{accepted-read}
-use Rattle.sheet.specs.declared.Contents.{Contents}
-use Rattle.sheet.specs.declared.Opened.the-variants.{Accepted}
-use Rattle.sheet.specs.Opened.{openedOf, opened-as, opened-same}
-use Rattle.listing.specs.Records.{viewsIn}
+use Rattle.semantics.specs.Theorems.Order.{Enumerates, enumerates-long}
 use Rattle.semantics.specs.Theorems.Tally.{AtMost}
-use Rattle.listing.specs.Walks.{Advanced, ListingOf}
+use Rattle.semantics.specs.Theorems.Walk.{walk-more, walk-is}
+use Rattle.listing.specs.Records.{viewsIn}
+use Rattle.listing.specs.Walks.{ListingAlong}
 use Rattle.listing.proofs.Steps.{one-at-most}
 
--- the guesses of n negations among the first i entries
-abbrev passed : (n i : ℕ) → List ℕ
-passed n i = keep (λ g. ltb g (2 ^ n)) (take i (order mostNegations))
+-- ---- the guesses of n negations among the first i entries
+abbrev pub passed : (n : ℕ) → List ℕ → (i : ℕ) → List ℕ
+passed n l i = membersBelow n (take i l)
 
--- what the walk has after i entries of the constant list, for the sheet that the bytes say
-abbrev pub Along : List ℕ → (i : ℕ) → Walked → Type 0
-Along s i w = (x : Sheet) (end : ℕ) → opened s ≡ field x end → w ≡ walk (setting x) (passed (k (setting x)) i)
+pub passed-begin : (n : ℕ) (l : List ℕ) (i : ℕ) → membersBelow n l ≡ passed n l i ++ membersBelow n (drop i l)
+passed-begin n l i = ap (membersBelow n) (sym (take-append-drop i l)) ∙ keep-append (λ g. ltb g (2 ^ n)) (take i l) (drop i l)
 
-passed-more : (n i : ℕ) → i < 2 ^ mostNegations → passed n (i + 1) ≡ passed n i ++ only (ltb (getD (order mostNegations) i 0) (2 ^ n)) (getD (order mostNegations) i 0)
-passed-more n i h =
-    ap (passed n) (add-one i) ∙ ap (keep (λ g. ltb g (2 ^ n))) (take-suc (order mostNegations) i 0 (rw (order-long mostNegations) h))
-    ∙ keep-snoc (λ g. ltb g (2 ^ n)) (take i (order mostNegations)) (getD (order mostNegations) i 0)
+-- entry i is a guess, or is passed over
+module _ (n : ℕ) (l : List ℕ) (i : ℕ) (h : i < length l) where
+  abbrev g : ℕ
+  g = getD l i 0
 
-pub along-first : (s ws : List ℕ) → Along s 0 (record { met = viewsIn ws 0; tally = start .tally })
+  passed-more : passed n l (i + 1) ≡ passed n l i ++ only (ltb g (2 ^ n)) g
+  passed-more = ap (passed n l) (add-one i) ∙ ap (membersBelow n) (take-suc l i 0 h) ∙ keep-snoc (λ g. ltb g (2 ^ n)) (take i l) g
+
+  passed-guess : g < 2 ^ n → passed n l (i + 1) ≡ passed n l i ++ g ∷ []
+  passed-guess b = passed-more ∙ rw (lt-ltb g (2 ^ n) b)
+
+  passed-over : 2 ^ n ≤ g → passed n l (i + 1) ≡ passed n l i
+  passed-over b = passed-more ∙ rw (le-ltb g (2 ^ n) b) (append-nil (passed n l i))
+
+-- ---- the walk over them
+pub along-first : (s : Setting) (n : ℕ) (l ws : List ℕ) → record { met = viewsIn ws 0; tally = start .tally } ≡ walk s (passed n l 0)
 unfolding keep walk viewsIn upTo
-along-first s ws x end e = refl
+along-first s n l ws = refl
 
--- ---- entry i is g
-module _ (s : List ℕ) (x : Contents) (accepted : openedOf (opened s) ≡ Accepted x) (i g : ℕ) (h : i < 2 ^ mostNegations)
-    (entry : g ≡ getD (order mostNegations) i 0) {w : Walked} (a : Along s i w) where
-  -- a guess of the sheet
-  pub along-more : g < 2 ^ x .negations → {v : Walked} → Advanced s g w v → Along s (i + 1) v
-  along-more l d y end e =
-      let n = k (setting y) in
-      let m : x .negations ≡ n = ap (λ z. z .negations) (opened-same (opened s) accepted e) in
-      let t : ltb (getD (order mostNegations) i 0) (2 ^ n) ≡ true = rw (← entry, ← m) (lt-ltb g (2 ^ x .negations) l) in
-      d y end e ∙ ap (λ z. advance (setting y) z g) (a y end e) ∙ sym (walk-more (setting y) (passed n i) g)
-      ∙ ap (walk (setting y)) (sym (passed-more n i h ∙ ap (λ b. passed n i ++ only b (getD (order mostNegations) i 0)) t ∙ ap (λ z. passed n i ++ z ∷ []) (sym entry)))
+module _ (s : Setting) (n : ℕ) (l : List ℕ) (i : ℕ) (h : i < length l) {w : Walked} (e : w ≡ walk s (passed n l i)) where
+  pub along-more : getD l i 0 < 2 ^ n → {v : Walked} → v ≡ advance s w (getD l i 0) → v ≡ walk s (passed n l (i + 1))
+  along-more b d =
+      d ∙ ap (λ z. advance s z (getD l i 0)) e ∙ sym (walk-more s (passed n l i) (getD l i 0)) ∙ ap (walk s) (sym (passed-guess n l i h b))
 
-  -- a guess of more negations
-  pub along-same : 2 ^ x .negations ≤ g → Along s (i + 1) w
-  along-same l y end e =
-      let n = k (setting y) in
-      let m : x .negations ≡ n = ap (λ z. z .negations) (opened-same (opened s) accepted e) in
-      let t : ltb (getD (order mostNegations) i 0) (2 ^ n) ≡ false = rw (← entry, ← m) (le-ltb g (2 ^ x .negations) l) in
-      a y end e ∙ ap (walk (setting y)) (sym (passed-more n i h ∙ ap (λ b. passed n i ++ only b (getD (order mostNegations) i 0)) t ∙ append-nil (passed n i)))
+  pub along-same : 2 ^ n ≤ getD l i 0 → w ≡ walk s (passed n l (i + 1))
+  along-same b = e ∙ ap (walk s) (sym (passed-over n l i h b))
 
--- the counts grow by one at most
-pub still-few : (s : List ℕ) (x : Contents) → openedOf (opened s) ≡ Accepted x → (g : ℕ) (w : Walked) {v : Walked} → Advanced s g w v → (n : ℕ) → AtMost (w .tally) n
-    → AtMost (v .tally) (n + 1)
-still-few s x accepted g w d n h =
-    let (y, end, e, _) = opened-as (opened s) accepted in
-    subst (λ z. AtMost (z .tally) (n + 1)) (sym (d y end e)) (one-at-most (w .tally) n (outcome (setting y) (w .met) g) h)
+-- no count is over the number of guesses
+walk-few : (s : Setting) (d : List ℕ) → AtMost (walk s d .tally) (length d)
+unfolding walk
+walk-few s d = from d start 0 (omega arith) (omega arith)
+  where
+    from : (r : List ℕ) (w : Walked) (n : ℕ) → AtMost (w .tally) n → n + length r ≤ length d → AtMost (foldl (advance s) w r .tally) (length d)
+    from [] w n a h = omega arith
+    from (g ∷ r) w n a h = from r (advance s w g) (n + 1) (one-at-most (w .tally) n (outcome s (w .met) g) a) (omega arith)
+
+-- ---- along all guesses, each once
+module _ (n : ℕ) (l : List ℕ) (en : Enumerates n (membersBelow n l)) where
+  few-passed : (i : ℕ) → length (passed n l i) ≤ 2 ^ n
+  few-passed i =
+      let begin = ap length (passed-begin n l i) ∙ length-append (passed n l i) (membersBelow n (drop i l)) in
+      omega (arith, begin, enumerates-long n (membersBelow n l) en)
+
+  module _ (s : Setting) (i : ℕ) {w : Walked} (e : w ≡ walk s (passed n l i)) where
+    counts : AtMost (w .tally) (length (passed n l i))
+    counts = rw e (walk-few s (passed n l i))
+
+    pub counts-few : AtMost (w .tally) (2 ^ n)
+    counts-few = omega (arith, counts, few-passed i)
+
+    -- where a guess is left there is a view less
+    pub views-fewer : i < length l → getD l i 0 < 2 ^ n → w .tally .views < 2 ^ n
+    views-fewer h b =
+        let more = ap length (passed-guess n l i h b) ∙ length-append (passed n l i) (getD l i 0 ∷ []) in
+        omega (arith, counts .0, few-passed (i + 1), more)
 
 -- ---- at its end it has the whole listing
-pub along-whole : (s : List ℕ) (w : Walked) → Along s (2 ^ mostNegations) w → ListingOf s (w .tally) (w .met)
-along-whole s w a x end e =
-    let n = k (setting x) in
-    let all : passed n (2 ^ mostNegations) ≡ order n =
-    ap (keep (λ g. ltb g (2 ^ n))) (take-all (2 ^ mostNegations) (order mostNegations) (omega (arith, order-long mostNegations)))
-    ∙ order-members n mostNegations (accepted-read s x end e .1) in
-    let is = a x end e ∙ ap (walk (setting x)) all ∙ walk-is (setting x) (order n) (order-enumerates n) in
+pub along-whole : (s : Setting) (n : ℕ) (l : List ℕ) → n ≡ k s → Enumerates n (membersBelow n l) → {w : Walked} → w ≡ walk s (passed n l (length l))
+    → ListingAlong s l (w .tally) (w .met)
+along-whole s n l same en e =
+    let is = e ∙ ap (λ j. walk s (passed j l (length l))) same ∙ ap (λ z. walk s (membersBelow (k s) z)) (take-length l)
+    ∙ walk-is s (membersBelow (k s) l) (subst (λ j. Enumerates j (membersBelow j l)) same en) in
     (ap (λ z. z .tally) is, ap (λ z. z .met) is)

@@ -5,28 +5,24 @@ use mathlib.Core.Bool.{Bool, true, false}
 use mathlib.Core.List.{List, [], _∷_, _++_, append-nil, foldl, List·Memᴰ·eq-of-singleton}
 use mathlib.Core.Logic.{_⊎_, inl, inr, ⊎-elim}
 use native.Mathlib.Omega.{arith}
-use lib.ListN.{getD, take, take-append-drop, drop}
+use lib.ListN.{getD}
 use Rattle.sets.specs.Decides.{is-true, is-false}
 use Rattle.sets.specs.Lists.{_among_, here, later, nowhere, among-append, some, getD-upTo}
-use Rattle.sets.specs.Pairwise.{Pairwise, pairwise-snoc, pairwise-prefix, pairwise-keep, pairwise-places}
+use Rattle.sets.specs.Pairwise.{Pairwise, pairwise-snoc, pairwise-prefix, pairwise-places}
 use Rattle.sets.specs.Sets.{_⊆?_, _⊂?_, size}
 use Rattle.sets.specs.Members.{dec-⊆, dec-⊂}
 use Rattle.sets.specs.Size.{size-⊂}
 use Rattle.semantics.specs.Definitions.Setting.{Setting}
-use Rattle.semantics.specs.Definitions.Check.{mostNegations, setting, opened}
 use Rattle.semantics.specs.Definitions.Verdict.{Verdict, empty, other, verified, verdict}
 use Rattle.semantics.specs.Definitions.Propagation.{contradicted}
-use Rattle.semantics.specs.Definitions.Order.{order}
+use Rattle.semantics.specs.Definitions.Order.{membersBelow}
 use Rattle.semantics.specs.Definitions.Listing.{View}
 use Rattle.semantics.specs.Walk.{Walked, start, outcomeBy, viewsBy, advance, walk}
-use Rattle.semantics.specs.Theorems.Order.{order-enumerates}
-use Rattle.sheet.specs.declared.Contents.{Contents}
-use Rattle.sheet.specs.declared.Opened.the-variants.{Accepted}
-use Rattle.sheet.specs.Opened.{openedOf, opened-as}
+use Rattle.semantics.specs.Theorems.Order.{Enumerates}
 use Rattle.listing.specs.declared.outcomes.Tally.{Tally as Counts}
 use Rattle.listing.specs.Walks.{walkedIn}
 use Rattle.listing.specs.Records.{viewIn, viewsIn, viewsIn-long, LargerFirst}
-use Rattle.listing.proofs.Along.{Along}
+use Rattle.listing.proofs.Along.{passed, passed-begin}
 
 -- ---- a guess g against another, h
 module _ (g h : ℕ) where
@@ -87,12 +83,9 @@ records-falling ws n p i j h l =
     let r : size (getD (viewsIn ws n) j d .guess) ≤ size (getD (viewsIn ws n) i d .guess) = pairwise-places _ (viewsIn ws n) d p i j h (omega (arith, l, viewsIn-long ws n)) in
     omega (arith, r, size-at i (omega arith), size-at j l)
 
--- after i entries of the constant list
-pub along-levels : (s : List ℕ) (x : Contents) → openedOf (opened s) ≡ Accepted x → (i : ℕ) (t : Counts) (ws : List ℕ) → Along s i (walkedIn t ws)
-    → LargerFirst ws (t .views)
-along-levels s x accepted i t ws a =
-    let (y, end, e, _) = opened-as (opened s) accepted in
-    let whole = order mostNegations in
-    let falls = subst (Pairwise (λ g h. size h ≤ size g)) (sym (take-append-drop i whole)) (order-enumerates mostNegations .larger-first) in
-    let passed = pairwise-keep _ _ (take i whole) (pairwise-prefix _ (take i whole) (drop i whole) falls) in
-    records-falling ws (t .views) (subst Falling (sym (ap (λ z. z .met) (a y end e))) (walk-falling (setting y) _ passed))
+-- after i entries of a list
+pub along-levels : (s : Setting) (n : ℕ) (l : List ℕ) → Enumerates n (membersBelow n l) → (i : ℕ) (t : Counts) (ws : List ℕ)
+    → walkedIn t ws ≡ walk s (passed n l i) → LargerFirst ws (t .views)
+along-levels s n l en i t ws e =
+    let falls = subst (Pairwise (λ g h. size h ≤ size g)) (passed-begin n l i) (en .larger-first) in
+    records-falling ws (t .views) (subst Falling (sym (ap (λ z. z .met) e)) (walk-falling s (passed n l i) (pairwise-prefix _ (passed n l i) _ falls)))

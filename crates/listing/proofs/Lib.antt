@@ -1,4 +1,4 @@
--- What the proofs cite: records in words, what a guess counts as, a step of the walk, and the walk along the order.
+-- What the proofs cite: records in words, what a guess counts as, a step of the walk, and the walk along a list of guesses.
 pub mod Placed
 pub mod Examined
 pub mod Steps

@@ -1,17 +1,19 @@
 -- A step of the walk, by what the guess counts as. Assumes nothing.
 use Prim.Native.Nat.{ℕ, _+_, _*_, _≤_}
 use mathlib.Core.Path.{_≡_, sym, ap, _∙_}
+use mathlib.Core.Bool.{true, false}
 use mathlib.Core.List.{List, [], _++_, append-nil}
 use native.Mathlib.Omega.{arith}
 use lib.ListN.{length, take, drop, take-append-drop}
-use Rattle.sets.specs.Lists.{flat}
+use Rattle.sets.specs.Lists.{some, flat}
+use Rattle.sets.specs.Sets.{_⊂?_}
 use Rattle.semantics.specs.Definitions.Setting.{Setting}
-use Rattle.semantics.specs.Definitions.Listing.{Tally, words}
+use Rattle.semantics.specs.Definitions.Listing.{Tally, View, words}
 use Rattle.semantics.specs.Walk.{Outcome, Covered, Ruled, Empty, Other, IsView, countedBy, viewsBy, outcome, advance}
 use Rattle.listing.specs.declared.outcomes.Tally.{Tally as Counts}
 use Rattle.listing.specs.Records.{viewsIn}
 use Rattle.semantics.specs.Theorems.Tally.{AtMost}
-use Rattle.listing.specs.Outcomes.{tallyFrom}
+use Rattle.listing.specs.Outcomes.{tallyFrom, ExaminedAs}
 use Rattle.listing.specs.Walks.{walkedIn}
 use Rattle.listing.proofs.Placed.{placed, views-more}
 
@@ -22,6 +24,14 @@ one-at-most t n Ruled h = omega arith
 one-at-most t n Empty h = omega arith
 one-at-most t n Other h = omega arith
 one-at-most t n (IsView v) h = omega arith
+
+-- ---- what a guess counts as: by the views met, or else as it is examined
+module _ (s : Setting) (met : List View) (g : ℕ) where
+  pub covered-as : some (λ v. g ⊂? v .guess) met ≡ true → Covered ≡ outcome s met g
+  covered-as e = rw e
+
+  pub examined-as : some (λ v. g ⊂? v .guess) met ≡ false → {o : Outcome} → ExaminedAs s g o → o ≡ outcome s met g
+  examined-as e d = d ∙ rw e
 
 -- ---- the records, once what a guess adds is noted
 abbrev noted : (at : ℕ) → Outcome → List ℕ → List ℕ

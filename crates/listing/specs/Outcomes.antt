@@ -2,10 +2,7 @@
 use Prim.Native.Nat.{ℕ}
 use mathlib.Core.Path.{_≡_}
 use mathlib.Core.Bool.{false}
-use mathlib.Core.List.{List}
-use Rattle.semantics.specs.Definitions.Reading.{field}
-use Rattle.semantics.specs.Definitions.Sheet.{Sheet}
-use Rattle.semantics.specs.Definitions.Check.{setting, opened}
+use Rattle.semantics.specs.Definitions.Setting.{Setting}
 use Rattle.semantics.specs.Definitions.Verdict.{verdict}
 use Rattle.semantics.specs.Definitions.Propagation.{contradicted}
 use Rattle.semantics.specs.Definitions.Listing.{Tally}
@@ -27,6 +24,6 @@ outcomeFrom Empty = walk.Empty
 outcomeFrom Other = walk.Other
 outcomeFrom (View v) = walk.IsView (viewFrom v)
 
--- what a guess that is not covered counts as, for the sheet that the bytes say
-abbrev pub ExaminedAs : List ℕ → (guess : ℕ) → walk.Outcome → Type 0
-ExaminedAs s g o = (x : Sheet) (end : ℕ) → opened s ≡ field x end → o ≡ walk.outcomeBy g false (contradicted (setting x) g) (verdict (setting x) g)
+-- what a guess that is not covered counts as
+abbrev pub ExaminedAs : Setting → (guess : ℕ) → walk.Outcome → Type 0
+ExaminedAs s g o = o ≡ walk.outcomeBy g false (contradicted s g) (verdict s g)

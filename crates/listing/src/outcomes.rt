@@ -1,22 +1,21 @@
 // What a guess counts as, and what then is done: the six counts, and the record of a view.
 use super::records::View;
 use super::records::write_record;
+use guess::outline::Outline;
 use guess::reduct::reduct;
 use propagation::contradicted;
-use sheet::Contents;
 use verdict::Verdict;
 use verdict::judge;
 ghost use mathlib.Core.Path.{_≡_};
 ghost use Prim.Native.Nat.{_^_, _<_, _≤_};
 ghost use lib.ListN.{length};
 ghost use Rattle.semantics.specs.Definitions.Sheet.{mostAtoms};
-ghost use Rattle.semantics.specs.Definitions.Check.{mostNegations, opened};
+ghost use Rattle.semantics.specs.Definitions.Check.{mostNegations};
 ghost use Rattle.semantics.specs.Definitions.Returned.{written};
 ghost use Rattle.semantics.specs.Definitions.Listing.{words};
-ghost use Rattle.sheet.specs.declared.Opened.the-variants.{Accepted};
-ghost use Rattle.sheet.specs.Opened.{openedOf};
 ghost use Rattle.semantics.specs.Walk.{countedBy, viewsBy};
 ghost use Rattle.semantics.specs.Theorems.Tally.{AtMost};
+ghost use Rattle.guess.specs.Programs.{settingIn, Outlines};
 ghost use Rattle.listing.specs.Outcomes.{tallyFrom, outcomeFrom, ExaminedAs};
 
 // What a guess counts as: covered, ruled, or tested and then by its verdict.
@@ -79,12 +78,12 @@ pub fn note(outcome: Outcome, part: &mut [u16])
 }
 
 // What a guess that is not covered counts as. Its reduct is built once.
-pub fn examine(s: &[u8], x: Contents, guess: u16, room: &mut [u16]) -> Outcome
-    requires { ⌜ (openedOf (opened (now s)) ≡ Accepted x) × (guess < 2 ^ x .negations) × (2 ^ mostAtoms ≤ length (now room)) ⌝ }
-    ensures { λ r. ⌜ ExaminedAs (now (s .entry)) guess (outcomeFrom r) ⌝ }
+pub fn examine(words: &[u16], x: Outline, guess: u16, room: &mut [u16]) -> Outcome
+    requires { ⌜ Outlines x (now words) × (guess < 2 ^ x .negations) × (2 ^ mostAtoms ≤ length (now room)) ⌝ }
+    ensures { λ r. ⌜ ExaminedAs (settingIn x (now (words .entry))) guess (outcomeFrom r) ⌝ }
 {
     let mut program = [0u16; 256];
-    let rules = reduct(s, x, guess, &mut program[..]);
+    let rules = reduct(words, x, guess, &mut program[..]);
     if contradicted(&program[..], rules, x, guess) {
         return Outcome::Ruled;
     }

@@ -1,29 +1,31 @@
 -- The constant list is the order, and its members below 2^k are the order of the guesses of k negations. Assumes nothing.
-use Prim.Native.Nat.{ℕ, _^_, _≤_}
+use Prim.Native.Nat.{ℕ, _≤_}
 use mathlib.Core.Path.{_≡_, sym, ap, _∙_, subst}
+use mathlib.Core.List.{List}
 use lib.Count.{onesIn}
-use lib.Dec.{T, ltb}
+use lib.Dec.{T}
 use Rattle.sets.specs.Decides.{passed}
-use Rattle.sets.specs.Lists.{every, keep}
+use Rattle.sets.specs.Lists.{every}
 use Rattle.sets.specs.Pairwise.{neighbours}
-use Rattle.semantics.specs.Definitions.Check.{mostNegations}
-use Rattle.semantics.specs.Definitions.Order.{order}
+use Rattle.semantics.specs.Definitions.Order.{order, membersBelow}
 use Rattle.semantics.specs.Theorems.Order.{Enumerates, order-enumerates, order-members}
 use Rattle.order.specs.Test.{inOrder, dec-order}
-use Rattle.order.specs.Table.{table}
+use Rattle.order.specs.Table.{tableWidth, table}
 
 -- computed, entry by entry
-table-passes : T (inOrder mostNegations table)
+table-passes : T (inOrder tableWidth table)
 unfolding inOrder table every neighbours onesIn
 table-passes = tt
 
-pub table-is : table ≡ order mostNegations
-table-is = passed (dec-order mostNegations table) table-passes
+pub table-is : table ≡ order tableWidth
+table-is = passed (dec-order tableWidth table) table-passes
 
--- it has every guess of twelve negations, each once, and those of larger size first
-pub table-enumerates : Enumerates mostNegations table
-table-enumerates = subst (Enumerates mostNegations) (sym table-is) (order-enumerates mostNegations)
+-- the constant list l, as the code has it, for k negations
+module _ {l : List ℕ} (is : l ≡ order tableWidth) {k : ℕ} (few : k ≤ tableWidth) where
+  -- "for smaller k its members below 2^k are taken"
+  pub table-members : membersBelow k l ≡ order k
+  table-members = ap (membersBelow k) is ∙ order-members k tableWidth few
 
--- "for smaller k its members below 2^k are taken"
-pub table-members : (k : ℕ) → k ≤ mostNegations → keep (λ g. ltb g (2 ^ k)) table ≡ order k
-table-members k h = ap (keep (λ g. ltb g (2 ^ k))) table-is ∙ order-members k mostNegations h
+  -- they are every guess of k negations, each once, and those of larger size first
+  pub table-enumerates : Enumerates k (membersBelow k l)
+  table-enumerates = subst (Enumerates k) (sym table-members) (order-enumerates k)

@@ -2,6 +2,10 @@
 use Prim.Native.Nat.{ℕ}
 use mathlib.Core.List.{List, [], _∷_}
 
+-- the constant list has all guesses of so many negations: "The order of all 4,096 guesses of twelve negations"
+abbrev pub tableWidth : ℕ
+tableWidth = 12
+
 unfoldable pub table : List ℕ
 table =
     4095 ∷ 2047 ∷ 3071 ∷ 3583 ∷ 3839 ∷ 3967 ∷ 4031 ∷ 4063 ∷ 4079 ∷ 4087 ∷ 4091 ∷ 4093 ∷ 4094 ∷ 1023 ∷ 1535 ∷ 1791 ∷

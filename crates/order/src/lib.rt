@@ -1,7 +1,7 @@
 // The order of the guesses as a constant list.
 ghost use mathlib.Core.Path.{_≡_};
-ghost use Rattle.semantics.specs.Definitions.Check.{mostNegations};
 ghost use Rattle.semantics.specs.Definitions.Order.{order};
+ghost use Rattle.order.specs.Table.{tableWidth};
 
 // All guesses of twelve negations: by falling size, and those of one size by rising number.
 const ORDER: [u16; 4096] = [
@@ -4105,7 +4105,7 @@ const ORDER: [u16; 4096] = [
 
 // The whole list.
 pub fn guesses() -> [u16; 4096]
-    ensures { λ r. ⌜ r ≡ order mostNegations ⌝ }
+    ensures { λ r. ⌜ r ≡ order tableWidth ⌝ }
 {
     ORDER
 }

@@ -14,7 +14,7 @@ use Rattle.semantics.specs.Definitions.Verdict.{foundHas}
 use Rattle.semantics.specs.Definitions.Propagation.{Pair}
 use Rattle.semantics.specs.Theorems.Negations.{atomOf}
 use Rattle.semantics.specs.Theorems.Contradicted.{Clash, dec-clash}
-use Rattle.sheet.specs.declared.Contents.{Contents}
+use Rattle.guess.specs.declared.outline.Outline.{Outline}
 use Rattle.guess.specs.Negations.{negationsIn, negationsBy, foundBy}
 use Rattle.propagation.specs.Pairs.{Clashes}
 
@@ -57,7 +57,7 @@ allowed n j g y (may-be a) l = (
   ),
 )
 
-module _ (x : Contents) (g : ℕ) (y : Pair) where
+module _ (x : Outline) (g : ℕ) (y : Pair) where
   abbrev es : List Negation
   es = negationsBy x
 

@@ -1,11 +1,11 @@
 // T and F of a reduct that is held in words, four a rule (`programIn` of semantics/specs/Words.antt), and whether they contradict the guess.
 use guess::negations::found;
+use guess::outline::Outline;
 use sets::full;
 use sets::meets;
 use sets::minus;
 use sets::size;
 use sets::subset;
-use sheet::Contents;
 ghost use mathlib.Core.Path.{_≡_};
 ghost use mathlib.Core.Logic.{_↔_};
 ghost use Prim.Native.Nat.{ℕ, _+_, _*_, _^_, _<_, _≤_};
@@ -146,7 +146,7 @@ fn empty_head(program: &[u16], rules: usize, pair: Pair) -> bool
 
 // Does some negation clash with T and F? None does where the guess has all of `least`, which are "not K a" with a in F and "M a" with a in
 // T, and nothing outside `most`, which are "not K a" with a not in T and "M a" with a not in F.
-fn clash(x: Contents, guess: u16, pair: Pair) -> bool
+fn clash(x: Outline, guess: u16, pair: Pair) -> bool
     requires { ⌜ Few x × (guess < 2 ^ length (negationsBy x)) ⌝ }
     ensures { λ r. ⌜ Decides (Clashes (negationsBy x) guess (pairFrom pair)) r ⌝ }
 {
@@ -159,7 +159,7 @@ fn clash(x: Contents, guess: u16, pair: Pair) -> bool
 }
 
 // Is the guess contradicted, whose reduct is the first rules of a program? (T and F never meet: Theorems/Apart.antt.)
-pub fn contradicted(program: &[u16], rules: usize, x: Contents, guess: u16) -> bool
+pub fn contradicted(program: &[u16], rules: usize, x: Outline, guess: u16) -> bool
     requires { ⌜ (4 * rules ≤ length (now program)) × Few x × (guess < 2 ^ length (negationsBy x)) ⌝ }
     ensures { λ r. ⌜ r ≡ isContradicted (settingBy x (programIn (now (program .entry)) rules)) guess ⌝ }
 {

@@ -10,10 +10,10 @@ pub mod Bytes
 pub mod Fitting
 pub mod Exact
 pub mod Following
--- ---- what the calls return for any bytes
+-- ---- what the calls return, for any bytes and any source
 pub mod Returned
+pub mod Source
 pub mod Check
-pub mod Below
 pub mod Calls
 pub mod ListCall
 pub mod Desk

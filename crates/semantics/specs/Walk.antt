@@ -1,14 +1,19 @@
 -- The listing as it is run: a walk along a list of guesses with the views met so far. The definitions of document 01 do not rest on
 -- it; Theorems/Walk.antt shows that it gives what they say.
-use Prim.Native.Nat.{ℕ, _+_}
+use Prim.Native.Nat.{ℕ, _+_, _^_}
 use mathlib.Core.Bool.{Bool, cond}
 use mathlib.Core.List.{List, [], _∷_, _++_, foldl}
 use Rattle.sets.specs.Lists.{some}
 use Rattle.sets.specs.Sets.{_⊂?_}
 use Rattle.semantics.specs.Definitions.Setting.{Setting}
+use Rattle.semantics.specs.Definitions.Check.{mostNegations}
 use Rattle.semantics.specs.Definitions.Verdict.{Verdict, empty, other, verified, verdict}
 use Rattle.semantics.specs.Definitions.Propagation.{contradicted}
 use Rattle.semantics.specs.Definitions.Listing.{Tally, View}
+
+-- as many records as a listing has room for: one for each guess of as many negations as refusal 7 allows
+abbrev pub recordsRoom : ℕ
+recordsRoom = 2 ^ mostNegations
 
 pub record Walked : Type 0 where
   pub met : List View

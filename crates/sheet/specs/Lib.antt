@@ -2,3 +2,4 @@
 pub mod Steps
 pub mod Opened
 pub mod Fetched
+pub mod Loaded

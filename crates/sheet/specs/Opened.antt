@@ -1,6 +1,6 @@
 -- What opening a sheet answers, and what the answer says. Assumes nothing.
 use Prim.Native.Nat.{ℕ}
-use mathlib.Core.Path.{_≡_, refl, sym, ap, _∙_}
+use mathlib.Core.Path.{_≡_, refl}
 use native.Mathlib.Omega.{arith}
 use lib.ListN.{length}
 use Rattle.semantics.specs.Definitions.Reading.{Reading, field, refused}
@@ -31,11 +31,6 @@ openedOf (refused number place) = Refused number place
 pub opened-as : (r : Reading Sheet) {x : Contents} → openedOf r ≡ Accepted x → (y : Sheet) × (end : ℕ) × (r ≡ field y end) × (x ≡ contents y)
 opened-as (field y end) e = (y, end, refl, cc)
 opened-as (refused number place) e = let z : _≡_ {A = ℕ} 0 1 = cc in absurd (omega arith)
-
-pub opened-same : (r : Reading Sheet) {x : Contents} {y : Sheet} {end : ℕ} → openedOf r ≡ Accepted x → r ≡ field y end → x ≡ contents y
-opened-same r {x} {y} e f =
-    let z : Accepted x ≡ Accepted (contents y) = sym e ∙ ap openedOf f in
-    cc
 
 pub opened-refused : (r : Reading Sheet) {number place : ℕ} → openedOf r ≡ Refused number place → r ≡ refused number place
 opened-refused (field x end) e = let z : _≡_ {A = ℕ} 0 1 = cc in absurd (omega arith)

@@ -1,21 +1,19 @@
-// A sheet, opened: whether it is accepted, what it says, and its rules by number.
+// A sheet, opened: whether it is accepted, what it says, and its rules, by number and in words.
 mod fields;
 mod names;
 mod opened_sheet;
 mod rules;
 mod sections;
 mod steps;
+mod words;
 
-use fields::word;
 use opened_sheet::opened_at;
 use opened_sheet::rule_of;
 use sections::sections as read_sections;
 use sets::size;
 use steps::Field;
+pub use words::load;
 ghost use mathlib.Core.Path.{_≡_};
-ghost use Prim.Native.Nat.{_+_, _*_, _<_, _≤_};
-ghost use lib.ListN.{length};
-ghost use Rattle.semantics.specs.Definitions.Sheet.{wordAt};
 ghost use Rattle.semantics.specs.Definitions.Check.{opened};
 ghost use Rattle.sheet.specs.Opened.{openedOf};
 ghost use Rattle.sheet.specs.Fetched.{RulesBegin, RuleByNumber};
@@ -68,18 +66,10 @@ pub fn open(s: &[u8]) -> Opened
     }
 }
 
-// The rule of a number of an accepted sheet, whose rules begin at a place: fetched from the opened sheet.
-pub fn fetch(s: &[u8], rules_at: usize, number: usize) -> Fetched
-    requires { ⌜ RulesBegin (now s) «rules_at» ⌝ }
+// The rule of a number of an accepted sheet, whose rules begin at a place and are so many: fetched from the opened sheet.
+pub fn fetch(s: &[u8], rules_at: usize, rules: usize, number: usize) -> Fetched
+    requires { ⌜ RulesBegin (now s) «rules_at» rules ⌝ }
     ensures { λ r. ⌜ RuleByNumber (now (s .entry)) number r ⌝ }
 {
-    rule_of(opened_at(s, rules_at), number)
-}
-
-// Mask i of the rule at a place.
-pub fn mask_of(s: &[u8], rule: usize, i: usize) -> u16
-    requires { ⌜ (rule + 16 ≤ length (now s)) × (i < 8) ⌝ }
-    ensures { λ r. ⌜ r ≡ wordAt (now (s .entry)) (rule + 2 * i) ⌝ }
-{
-    word(s, rule + 2 * i)
+    rule_of(opened_at(s, rules_at, rules), number)
 }

@@ -14,12 +14,14 @@ use Rattle.sets.specs.Lists.{_among_, here, later, keep, flat, flat-snoc, upTo,
 use Rattle.sets.specs.Sets.{_∈?_}
 use Rattle.semantics.specs.Definitions.Reading.{field}
 use Rattle.semantics.specs.Definitions.Sheet.{Sheet, byteAt, mostAtoms, longestName}
-use Rattle.semantics.specs.Definitions.Check.{opened}
+use Rattle.semantics.specs.Definitions.Check.{opened, said}
+use Rattle.semantics.specs.Definitions.Returned.{accepted}
 use Rattle.semantics.specs.Definitions.Program.{bytes, decimal, namesOf, viewLine, setLine}
 use Rattle.semantics.specs.Fields.{nameFrom, afterName, namesFrom, afterNames}
 use Rattle.semantics.specs.Theorems.Fields.{afterNames-more, afterNames-rises}
 use Rattle.semantics.specs.Theorems.Accepted.{accepted-lies}
 use Rattle.semantics.specs.Theorems.Layout.{accepted-fits}
+use Rattle.semantics.specs.Theorems.Source.{said-accepted}
 use Rattle.text.specs.Names.{atomsIn, nameField, memberField, memberFields}
 use Rattle.text.specs.Lines.{viewRead, setRead}
 use Rattle.text.proofs.Fields.{spaced}
@@ -100,14 +102,20 @@ module _ (s : List ℕ) (x : Sheet) (end : ℕ) (e : opened s ≡ field x end) w
       ∙ kept-fields (memberField s set) (λ a. a ∈? set) (λ a. getD (x .names) a []) (upTo (length (x .names)))
       (λ a m. ap (λ z. cond (a ∈? set) z []) (name-field a (among-upTo (length (x .names)) .0 m)))
 
-  -- ---- the lines read off the bytes
-  pub view-says : (guess sets known : ℕ) → viewRead s guess sets known ≡ viewLine (x .names) guess sets known
+-- ---- the lines read off the bytes
+module _ (s : List ℕ) (names : List (List ℕ)) (e : said (λ x. x .names) s ≡ accepted names) where
+  named : (set : ℕ) → memberFields s set (atomsIn s) ≡ spaced (namesOf names set)
+  named set =
+      let (x, end, d, same) = said-accepted (λ x. x .names) s names .0 e in
+      names-spaced s x end d set ∙ ap (λ l. spaced (namesOf l set)) (sym same)
+
+  pub view-says : (guess sets known : ℕ) → viewRead s guess sets known ≡ viewLine names guess sets known
   unfolding flat
   view-says guess sets known =
       let front = bytes "view" ++ 32 ∷ decimal guess in
-      let names = spaced (namesOf (x .names) known) in
-      ap (λ z. front ++ 32 ∷ decimal sets ++ z ++ 10 ∷ []) (names-spaced known)
-      ∙ ap (λ z. z ++ 10 ∷ []) (append-assoc front (32 ∷ decimal sets) names ∙ append-assoc (bytes "view") (32 ∷ decimal guess) (32 ∷ decimal sets ++ names))
+      let fields = spaced (namesOf names known) in
+      ap (λ z. front ++ 32 ∷ decimal sets ++ z ++ 10 ∷ []) (named known)
+      ∙ ap (λ z. z ++ 10 ∷ []) (append-assoc front (32 ∷ decimal sets) fields ∙ append-assoc (bytes "view") (32 ∷ decimal guess) (32 ∷ decimal sets ++ fields))
 
-  pub set-says : (set : ℕ) → setRead s set ≡ setLine (x .names) set
-  set-says set = ap (λ z. bytes "set" ++ z ++ 10 ∷ []) (names-spaced set)
+  pub set-says : (set : ℕ) → setRead s set ≡ setLine names set
+  set-says set = ap (λ z. bytes "set" ++ z ++ 10 ∷ []) (named set)

@@ -3,9 +3,8 @@ use Prim.Native.Nat.{ℕ}
 use mathlib.Core.Path.{_≡_}
 use mathlib.Core.List.{List, [], _∷_, _++_}
 use lib.ListN.{take, drop}
-use Rattle.semantics.specs.Definitions.Reading.{field}
-use Rattle.semantics.specs.Definitions.Sheet.{Sheet}
-use Rattle.semantics.specs.Definitions.Check.{opened}
+use Rattle.semantics.specs.Definitions.Check.{said}
+use Rattle.semantics.specs.Definitions.Returned.{accepted}
 use Rattle.semantics.specs.Definitions.Program.{bytes, decimal}
 use Rattle.text.specs.Names.{atomsIn, memberFields}
 
@@ -14,9 +13,9 @@ pub record Holds (line before after : List ℕ) (r : ℕ) : Type 0 where
   pub front : take r after ≡ line
   pub rest : drop r after ≡ drop r before
 
--- the line that the names of the sheet give, for the sheet that the bytes say
+-- the line that the names of the sheet give, where the bytes are an accepted sheet
 abbrev pub HoldsFor : List ℕ → (List (List ℕ) → List ℕ) → (before after : List ℕ) → ℕ → Type 0
-HoldsFor s line before after r = (x : Sheet) (end : ℕ) → opened s ≡ field x end → Holds (line (x .names)) before after r
+HoldsFor s line before after r = (names : List (List ℕ)) → said (λ x. x .names) s ≡ accepted names → Holds (line names) before after r
 
 -- ---- lines with names, read off any bytes
 -- `view`, guess, number of sets, and the names of the known atoms

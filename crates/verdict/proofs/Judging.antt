@@ -1,4 +1,4 @@
--- The verdict, from what the walks give, and for an accepted sheet. Assumes nothing.
+-- The verdict, from what the walks give. Assumes nothing.
 use Prim.Native.Nat.{ℕ}
 use mathlib.Core.Path.{_≡_, refl, ap, _∙_}
 use mathlib.Core.List.{List, [], _∷_}
@@ -9,19 +9,15 @@ use lib.ListN.{length}
 use Rattle.sets.specs.Lists.{null}
 use Rattle.sets.specs.Sets.{⋂, ⋃}
 use Rattle.semantics.specs.Definitions.Rules.{Rule}
-use Rattle.semantics.specs.Definitions.Check.{opened}
 use Rattle.semantics.specs.Definitions.Stable.{stableSets}
-use Rattle.semantics.specs.Definitions.Verdict.{beliefSets, guessFound, Verdict, empty, other, verified, verdictBy, verdict}
-use Rattle.sheet.specs.declared.Contents.{Contents}
-use Rattle.sheet.specs.declared.Opened.the-variants.{Accepted}
-use Rattle.sheet.specs.Opened.{openedOf, opened-same}
+use Rattle.semantics.specs.Definitions.Verdict.{beliefSets, guessFound, empty, other, verified, verdictBy, verdict}
+use Rattle.guess.specs.declared.outline.Outline.{Outline}
 use Rattle.guess.specs.Negations.{foundBy}
-use Rattle.guess.specs.Acted.{ReductOf}
-use Rattle.guess.specs.Settings.{settingBy, verdict-by}
-use Rattle.verdict.specs.Verdicts.{verdictFrom, BeliefSets, VerdictOn}
+use Rattle.guess.specs.Settings.{settingBy}
+use Rattle.verdict.specs.Verdicts.{verdictFrom}
 
 -- the three verdicts
-module _ (x : Contents) (n known possible g : ℕ) where
+module _ (x : Outline) (n known possible g : ℕ) where
   pub is-empty : n ≡ 0 → empty ≡ verdictFrom x n known possible g
   is-empty e = rw (eq-eqb n 0 e)
 
@@ -37,20 +33,10 @@ no-sets [] = refl
 no-sets (i ∷ w) = ne-eqb (length (i ∷ w)) 0 (λ e. omega arith)
 
 -- of the stable sets w of a reduct: their number, and what is known and possible in them
-pub decided-by : (x : Contents) (p : List Rule) (w : List ℕ) (g : ℕ) {n known possible : ℕ} → w ≡ stableSets (x .atoms) p
+pub decided-by : (x : Outline) (p : List Rule) (w : List ℕ) (g : ℕ) {n known possible : ℕ} → w ≡ stableSets (x .atoms) p
     → length w ≡ n → known ≡ ⋂ (x .atoms) w → possible ≡ ⋃ w → verdictFrom x n known possible g ≡ verdict (settingBy x p) g
 unfolding verdict beliefSets guessFound
 decided-by x p w g d long all any = by w long all any ∙ ap (λ z. verdictBy (settingBy x p) z g) d
   where
     by : (w : List ℕ) {n known possible : ℕ} → length w ≡ n → known ≡ ⋂ (x .atoms) w → possible ≡ ⋃ w → verdictFrom x n known possible g ≡ verdictBy (settingBy x p) w g
     by w long all any = rw (← long, all, any, no-sets w)
-
--- ---- of an accepted sheet
--- the stable sets of what is the reduct, and the verdict by them
-module _ (s : List ℕ) (x : Contents) (accepted : openedOf (opened s) ≡ Accepted x) (g : ℕ) (p : List Rule) (reduct : ReductOf s g p) where
-  pub gathered : {w : List ℕ} → w ≡ stableSets (x .atoms) p → BeliefSets s g w
-  unfolding beliefSets
-  gathered d y end e = d ∙ rw (opened-same (opened s) accepted e, reduct y end e)
-
-  pub judged : {v : Verdict} → v ≡ verdict (settingBy x p) g → VerdictOn s g v
-  judged d y end e = d ∙ verdict-by s x accepted g p reduct y end e

@@ -7,14 +7,14 @@ ghost use mathlib.Core.Path.{_≡_};
 ghost use Prim.Native.Nat.{_*_, _^_, _≤_};
 ghost use lib.ListN.{length, take};
 ghost use Rattle.sets.specs.Sets.{⋂, ⋃};
-ghost use Rattle.semantics.specs.Words.{programIn};
-ghost use Rattle.semantics.specs.Definitions.Sheet.{mostAtoms, mostRules};
+ghost use Rattle.semantics.specs.Words.{programRoom, programIn};
+ghost use Rattle.semantics.specs.Definitions.Sheet.{mostAtoms};
 ghost use Rattle.semantics.specs.Definitions.Stable.{stableSets};
 
 // Writes the stable sets of a program, by rising number, and says how many they are. Each set is tested once. The rule that failed last is
 // asked first (at the beginning rule 0): it often fails again.
 pub fn stable_sets(program: &[u16], rules: usize, atoms: usize, out: &mut [u16]) -> usize
-    requires { ⌜ (4 * rules ≤ length (now program)) × (rules ≤ mostRules) × (atoms ≤ mostAtoms) × (2 ^ atoms ≤ length (now out)) ⌝ }
+    requires { ⌜ (4 * rules ≤ length (now program)) × (rules ≤ programRoom) × (atoms ≤ mostAtoms) × (2 ^ atoms ≤ length (now out)) ⌝ }
     ensures { λ r. ⌜ length (now (out .exit)) ≡ length (now (out .entry)) ⌝ }
     ensures { λ r. ⌜ r ≤ 2 ^ atoms ⌝ }
     ensures { λ r. ⌜ take r (now (out .exit)) ≡ stableSets atoms (programIn (now (program .entry)) rules) ⌝ }

@@ -8,10 +8,12 @@ use engine::check;
 use engine::list;
 use libc::STDIN_FILENO;
 use libc::STDOUT_FILENO;
+ghost use mathlib.Core.Path.{_≡_};
 ghost use Prim.Native.Nat.{_+_, _*_, _≤_};
 ghost use lib.ListN.{length, getD};
 ghost use Rattle.semantics.specs.Definitions.Setting.{Setting};
-ghost use Rattle.semantics.specs.Theorems.Returned.{SheetOf};
+ghost use Rattle.semantics.specs.Definitions.Check.{ofSheet};
+ghost use Rattle.semantics.specs.Definitions.Returned.{accepted};
 ghost use Rattle.semantics.specs.Theorems.Calls.{GuessOf};
 ghost use Rattle.semantics.specs.Theorems.Records.{RecordsOf};
 
@@ -68,7 +70,7 @@ fn each_set(sheet: &[u8], sets: &[u16], n: usize)
 
 // The belief sets of a guess. There are no more than 2^15, one word each, so they are not refused.
 fn sets_of(sheet: &[u8], guess: u16)
-    requires { ⌜ ((s : Setting) × GuessOf (now sheet) guess s) ⌝ }
+    requires { ⌜ ((s : Setting) × GuessOf (ofSheet (now sheet)) guess s) ⌝ }
 {
     let mut sets = [0u16; 32768];
     match belief_sets(sheet, guess as u32, &mut sets) {
@@ -80,7 +82,7 @@ fn sets_of(sheet: &[u8], guess: u16)
 // The view whose record begins at a word.
 fn view_at(sheet: &[u8], records: &[u16], at: usize)
     requires { ⌜ at + 4 ≤ length (now records) ⌝ }
-    requires { ⌜ ((s : Setting) × GuessOf (now sheet) (getD (now records) at 0) s) ⌝ }
+    requires { ⌜ ((s : Setting) × GuessOf (ofSheet (now sheet)) (getD (now records) at 0) s) ⌝ }
 {
     let guess = records[at];
     print_view(sheet, guess, records[at + 3], records[at + 1]);
@@ -90,7 +92,7 @@ fn view_at(sheet: &[u8], records: &[u16], at: usize)
 // The views of the n records of a sheet.
 fn each_view(sheet: &[u8], records: &[u16], n: usize)
     requires { ⌜ 4 * n ≤ length (now records) ⌝ }
-    requires { ⌜ ((s : Setting) × SheetOf (now sheet) s × RecordsOf s n (now records)) ⌝ }
+    requires { ⌜ ((s : Setting) × (ofSheet (now sheet) ≡ accepted s) × RecordsOf s n (now records)) ⌝ }
 {
     for i in 0..n {
         view_at(sheet, records, 4 * i);
@@ -99,7 +101,7 @@ fn each_view(sheet: &[u8], records: &[u16], n: usize)
 
 // The views and the tally of an accepted sheet. There are no more than 4,096, four words each, so the listing is not refused.
 fn listing(sheet: &[u8])
-    requires { ⌜ ((s : Setting) × SheetOf (now sheet) s) ⌝ }
+    requires { ⌜ ((s : Setting) × (ofSheet (now sheet) ≡ accepted s)) ⌝ }
 {
     let mut records = [0u16; 16384];
     match list(sheet, &mut records) {

@@ -1,47 +1,66 @@
 -- `engine::belief_sets` meets its contract. Assumes nothing.
-use mathlib.Core.Path.{_≡_, sym, subst, _∙_}
-use lib.ListN.{length}
-use lib.Seq.{length-take-le}
+use mathlib.Core.Path.{_≡_, subst}
 use native.Mathlib.Omega.{arith}
+use lib.ListN.{length, take}
+use lib.Seq.{length-take-le}
+use Rattle.semantics.specs.Definitions.Check.{ofSheet}
 use Rattle.semantics.specs.Definitions.Returned.{refusal}
-use Rattle.semantics.specs.Definitions.Calls.{openedFor, beliefSetsCall}
+use Rattle.semantics.specs.Definitions.Calls.{forGuess, beliefSetsCall}
 use Rattle.engine.specs.declared.Counted.the-variants.{Accepted, Refused}
-use Rattle.engine.proofs.Laws.{turned-back, forGuess, opened-too, guess-fits, sets-returned, too-short, kept, filled, sets-met}
+use Rattle.engine.specs.Sources.{Reads}
+use Rattle.engine.proofs.Laws.{within, outlined, guess-fits, sets-returned, too-short, sets-turned-back, kept, filled, sets-met}
 use borrow.Author.Needs.{needs}
 use Rattle.engine.proofs.belief_sets.Statement.{statement}
 use Rattle.engine.proofs.belief_sets.Tie as tie
 
-open-for-requires : tie.Need-open-for-requires
-open-for-requires c κs = search needs
+-- what was read, with the guess judged
+read : (c : tie.After-for-guess) →
+    let a = c .before .before .before .before .before .before .args in
+    Reads (forGuess (ofSheet (a .sheet .now)) (a .guess)) (c .for-guess .result) (c .before .before .of-sheet .last .1 .0)
+read c = c .for-guess .ensures (ofSheet (c .before .before .before .before .before .before .args .sheet .now)) _ (c .before .before .of-sheet .ensures .1)
+
+slice-aggregate-of-sheet : tie.Need-slice-aggregate-of-sheet
+slice-aggregate-of-sheet c = search needs
+
+of-sheet-requires : tie.Need-of-sheet-requires
+of-sheet-requires c κs = search needs
+
+for-guess-requires : tie.Need-for-guess-requires
+for-guess-requires c κs = within (ofSheet (c .before .before .before .before .before .args .sheet .now)) _ (c .before .of-sheet .result) (c .before .of-sheet .ensures .1)
 
 enum-known-x : tie.Need-enum-known-x
 enum-known-x c = search needs
 
-cast-belief-sets : tie.Need-cast-belief-sets
-cast-belief-sets c =
-    let a = c .before .before .before .before .before .before .args in
-    let h = guess-fits (a .sheet .now) (a .guess) (sym (c .before .before .before .open-for .ensures) ∙ c .before .x .given .1) in
-    omega (arith, h)
-
 slice-aggregate-belief-sets : tie.Need-slice-aggregate-belief-sets
 slice-aggregate-belief-sets c = search needs
 
+cast-belief-sets : tie.Need-cast-belief-sets
+cast-belief-sets c =
+    let a = c .before .before .before .before .before .before .before .before .before .before .args in
+    omega (arith, guess-fits (ofSheet (a .sheet .now)) (a .guess) _ _ (read (c .before .before .before .before)) (c .before .before .x .given .1))
+
+slice-aggregate-belief-sets-2 : tie.Need-slice-aggregate-belief-sets-2
+slice-aggregate-belief-sets-2 c = search needs
+
 belief-sets-requires : tie.Need-belief-sets-requires
-unfolding openedFor
 belief-sets-requires c κs =
-    let a = c .before .before .before .before .before .before .before .args in
-    (opened-too forGuess (a .sheet .now) (a .guess) (sym (c .before .before .before .before .open-for .ensures) ∙ c .before .before .x .given .1), search needs)
+    let a = c .before .before .before .before .before .before .before .before .before .before .before .args in
+    (outlined (forGuess (ofSheet (a .sheet .now)) (a .guess)) _ _ (read (c .before .before .before .before .before)) (c .before .before .before .x .given .1), search needs)
+
+-- as many sets as were counted
+long : (c : tie.After-belief-sets) → length (take (c .belief-sets .result) (c .belief-sets .last .1 .1 .1 .0)) ≡ c .belief-sets .result
+long c =
+    let w = c .belief-sets in
+    length-take-le (w .result) (w .last .1 .1 .1 .0) (omega (arith, w .ensures .0, w .ensures .1 .0))
 
 returns : tie.Need-returns
 returns c =
-    let a = c .before .before .before .before .before .before .before .before .before .before .args in
-    let answered = c .before .before .before .before .before .before .before .open-for .ensures in
-    let told = sym answered ∙ c .before .before .before .before .before .x .given .1 in
-    let w = c .before .before .belief-sets in
-    let long = length-take-le (w .result) (w .last .1 .1 .1 .0) (omega (arith, w .ensures .0, w .ensures .1 .0)) in
-    sets-met (a .sheet .now) (a .guess) (a .out .now) (Refused 9 (w .result)) (a .out .now)
-    (kept length (λ w. w) (a .out .now) (subst (λ n. beliefSetsCall (a .sheet .now) (a .guess) (length (a .out .now)) ≡ refusal 9 n) long
-    (too-short (a .sheet .now) (a .guess) told _ (w .ensures .1 .1) (length (a .out .now)) (omega (arith, long, c .if1 .taken)))))
+    let a = c .before .before .before .before .before .before .before .before .before .before .before .before .before .before .args in
+    let from = ofSheet (a .sheet .now) in
+    let many = long (c .before .before) in
+    sets-met from (a .guess) (a .out .now) (Refused 9 _) (a .out .now)
+    (kept length (λ w. w) (a .out .now) (subst (λ n. beliefSetsCall from (a .guess) (length (a .out .now)) ≡ refusal 9 n) many
+    (too-short from (a .guess) _ _ (read (c .before .before .before .before .before .before .before .before)) (c .before .before .before .before .before .before .x .given .1) _ (c .before .before .belief-sets .ensures .1 .1) (length (a .out .now)) (omega (arith, many, c .if1 .taken)))))
 
 slice-aggregate-write : tie.Need-slice-aggregate-write
 slice-aggregate-write c = search needs
@@ -57,32 +76,32 @@ same-length c = search needs
 
 returns-2 : tie.Need-returns-2
 returns-2 c =
-    let a = c .before .before .before .before .before .before .before .before .before .before .before .before .before .before .before .args in
-    let answered = c .before .before .before .before .before .before .before .before .before .before .before .before .open-for .ensures in
-    let told = sym answered ∙ c .before .before .before .before .before .before .before .before .before .before .x .given .1 in
-    let w = c .before .before .before .before .before .before .before .belief-sets in
-    let long = length-take-le (w .result) (w .last .1 .1 .1 .0) (omega (arith, w .ensures .0, w .ensures .1 .0)) in
-    sets-met (a .sheet .now) (a .guess) (a .out .now) (Accepted (w .result)) _
+    let a = c .before .before .before .before .before .before .before .before .before .before .before .before .before .before .before .before .before .before .before .args in
+    let from = ofSheet (a .sheet .now) in
+    let many = long (c .before .before .before .before .before .before .before) in
+    sets-met from (a .guess) (a .out .now) (Accepted _) _
     (filled length (λ w. w) (a .out .now)
-    (sets-returned (a .sheet .now) (a .guess) told _ (w .ensures .1 .1) (length (a .out .now))
-    (omega (arith, long, c .before .before .before .before .before .if1 .left)))
-    long (c .before .before .write .ensures))
+    (sets-returned from (a .guess) _ _ (read (c .before .before .before .before .before .before .before .before .before .before .before .before .before)) (c .before .before .before .before .before .before .before .before .before .before .before .x .given .1) _ (c .before .before .before .before .before .before .before .belief-sets .ensures .1 .1) (length (a .out .now)) (omega (arith, many, c .before .before .before .before .before .if1 .left)))
+    many (c .before .before .write .ensures))
 
 returns-3 : tie.Need-returns-3
-unfolding openedFor beliefSetsCall
 returns-3 c =
-    let a = c .before .before .before .before .before .before .args in
-    sets-met (a .sheet .now) (a .guess) (a .out .now) (Refused _ _) (a .out .now)
-    (kept length (λ w. w) (a .out .now) (sym (turned-back forGuess (a .sheet .now) (a .guess) _ (sym (c .before .before .before .open-for .ensures) ∙ c .before .number .given .1))))
+    let a = c .before .before .before .before .before .before .before .before .before .args in
+    let from = ofSheet (a .sheet .now) in
+    sets-met from (a .guess) (a .out .now) (Refused _ _) (a .out .now)
+    (kept length (λ w. w) (a .out .now) (sets-turned-back from (a .guess) _ _ (read (c .before .before .before)) (c .before .number .given .1) (length (a .out .now))))
 
 pub belief-sets-spec : {M : Type 1} → statement M
 belief-sets-spec =
     tie.close
     (tie.spec
-    open-for-requires
+    slice-aggregate-of-sheet
+    of-sheet-requires
+    for-guess-requires
     enum-known-x
-    cast-belief-sets
     slice-aggregate-belief-sets
+    cast-belief-sets
+    slice-aggregate-belief-sets-2
     belief-sets-requires
     returns
     slice-aggregate-write

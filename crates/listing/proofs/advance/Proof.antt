@@ -3,14 +3,13 @@ use Prim.Native.Nat.{_*_}
 use mathlib.Core.Path.{refl, sym, ap, _∙_}
 use native.Mathlib.Omega.{arith}
 use lib.ListN.{length}
-use Rattle.semantics.specs.Definitions.Check.{setting}
-use Rattle.semantics.specs.Definitions.Verdict.{verdict}
-use Rattle.semantics.specs.Definitions.Propagation.{contradicted}
 use Rattle.semantics.specs.Definitions.Listing.{words}
-use Rattle.semantics.specs.Walk.{Covered, outcomeBy, viewsBy}
+use Rattle.semantics.specs.Walk.{Covered, viewsBy}
+use Rattle.guess.specs.Programs.{settingIn}
+use Rattle.listing.specs.Records.{viewsIn}
 use Rattle.listing.specs.Outcomes.{outcomeFrom}
 use Rattle.listing.proofs.Placed.{part-written, placed-long}
-use Rattle.listing.proofs.Steps.{words-few, covered-noted, advanced}
+use Rattle.listing.proofs.Steps.{covered-as, examined-as, words-few, covered-noted, advanced}
 use borrow.Author.Needs.{needs}
 use Rattle.listing.proofs.advance.Statement.{statement}
 use Rattle.listing.proofs.advance.Tie as tie
@@ -28,12 +27,11 @@ returns : tie.Need-returns
 returns c =
     let a = c .before .before .before .before .before .before .before .args in
     let pre = c .before .before .before .before .before .before .before .pre in
-    let seen = sym (c .before .before .covered-by .ensures) ∙ c .before .if1 .taken in (
+    let seen = sym (c .before .before .covered-by .ensures) ∙ c .before .if1 .taken in
+    let s = settingIn (a .x) (a .words .now) in (
       refl,
-      λ x end e.
-          advanced (setting x) (a .tally) _ (a .records .now) _ (a .guess) Covered (omega (arith, pre .1 .1))
-          (ap (λ b. outcomeBy (a .guess) b (contradicted (setting x) (a .guess)) (verdict (setting x) (a .guess))) (sym seen)) (c .count .ensures)
-          (covered-noted (4 * a .tally .views) (a .records .now)),
+      advanced s (a .tally) _ (a .records .now) _ (a .guess) Covered (omega (arith, pre .1 .1))
+          (covered-as s (viewsIn (a .records .now) (a .tally .views)) (a .guess) seen) (c .count .ensures) (covered-noted (4 * a .tally .views) (a .records .now)),
     )
 
 examine-requires : tie.Need-examine-requires
@@ -72,12 +70,11 @@ returns-2 c =
     let pre = c .before .before .before .before .before .before .before .before .before .before .before .before .before .before .before .before .pre in
     let seen = sym (c .before .before .before .before .before .before .before .before .before .before .before .covered-by .ensures) ∙ c .before .before .before .before .before .before .before .before .before .before .if1 .left in
     let o = outcomeFrom (c .before .before .before .before .before .before .before .before .examine .result) in
+    let s = settingIn (a .x) (a .words .now) in
     let put = part-written (4 * a .tally .views) (a .records .now) (words (viewsBy o)) (c .before .before .before .note .ensures) in (
       ap length put ∙ placed-long (4 * a .tally .views) (a .records .now) (words (viewsBy o)) (omega (arith, words-few o, pre .1 .1)),
-      λ x end e.
-          advanced (setting x) (a .tally) _ (a .records .now) _ (a .guess) o (omega (arith, pre .1 .1))
-          (c .before .before .before .before .before .before .before .before .examine .ensures x end e
-          ∙ ap (λ b. outcomeBy (a .guess) b (contradicted (setting x) (a .guess)) (verdict (setting x) (a .guess))) (sym seen)) (c .count2 .ensures) put,
+      advanced s (a .tally) _ (a .records .now) _ (a .guess) o (omega (arith, pre .1 .1))
+          (examined-as s (viewsIn (a .records .now) (a .tally .views)) (a .guess) seen (c .before .before .before .before .before .before .before .before .examine .ensures)) (c .count2 .ensures) put,
     )
 
 pub advance-spec : {M : Type 1} → statement M

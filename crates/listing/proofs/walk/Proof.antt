@@ -1,74 +1,74 @@
 -- `listing::walk` meets its contract. Assumes nothing.
 use Prim.Native.Nat.{ℕ, _+_, _-_, _^_, _≤_, _<_}
-use mathlib.Core.Path.{_≡_, refl, sym, ap, _∙_, subst}
+use mathlib.Core.Path.{_≡_, refl, sym, _∙_, subst}
 use mathlib.Core.List.{List}
 use mathlib.Core.Logic.{⊎-elim}
 use native.Mathlib.Omega.{arith}
 use lib.ListN.{length, getD}
+use lib.Pow.{pow-mono}
+use Rattle.semantics.specs.Definitions.Setting.{Setting}
+use Rattle.semantics.specs.Walk.{walk}
+use Rattle.guess.specs.Programs.{settingIn}
 use Rattle.listing.specs.declared.outcomes.Tally.{Tally}
-use Rattle.semantics.specs.Theorems.Tally.{AtMost}
-use Rattle.listing.specs.Outcomes.{tallyFrom}
 use Rattle.listing.specs.Walks.{walkedIn}
-use Rattle.guess.specs.Accepted.{few-negations}
-use Rattle.listing.proofs.Along.{Along, along-first, along-more, along-same, still-few, along-whole}
+use Rattle.listing.proofs.Along.{passed, along-first, along-more, along-same, counts-few, views-fewer, along-whole}
 use Rattle.listing.proofs.Levels.{along-levels}
 use borrow.Author.Needs.{needs}
 use Rattle.listing.proofs.walk.Statement.{statement}
 use Rattle.listing.proofs.walk.Tie as tie
 
--- after i entries of the constant list
-abbrev holds : (s records₀ : List ℕ) (i : ℕ) (records room : List ℕ) → Tally → Type 0
-holds s records₀ i records room tally =
-    (i ≤ 4096) × (length records ≡ length records₀) × (length room ≡ 32768) × AtMost (tallyFrom tally) i × Along s i (walkedIn tally records)
+-- after i entries of the list
+abbrev holds : (s : Setting) (n : ℕ) (order records₀ : List ℕ) (i : ℕ) (records room : List ℕ) → Tally → Type 0
+holds s n order records₀ i records room tally =
+    (i ≤ length order) × (length records ≡ length records₀) × (length room ≡ 32768) × (walkedIn tally records ≡ walk s (passed n order i))
 
 came : (P : List ℕ → List ℕ → Tally → Type 0) {r r′ q q′ : List ℕ} {t t′ : Tally} → r ≡ r′ → q ≡ q′ → t ≡ t′ → P r′ q′ t′ → P r q t
 came P {r} {r′} {q} {q′} {t} {t′} d e f p = subst (λ z. P z q t) (sym d) (subst (λ z. P r′ z t) (sym e) (subst (λ z. P r′ q′ z) (sym f) p))
 
 abbrev Inv-loop : tie.InvT-loop
-Inv-loop s x records₀ order room₀ end tally₀ i₀ records room tally i = holds s records₀ i records room tally
+Inv-loop words x order records₀ room₀ end tally₀ i₀ records room tally i = holds (settingIn x words) (x .negations) order records₀ i records room tally
 
 abbrev μ-loop : tie.MeasureT-loop
-μ-loop s x records₀ order room₀ end tally₀ i₀ records room tally i = 4096 - i
-
-guesses-requires : tie.Need-guesses-requires Inv-loop μ-loop
-guesses-requires c κs = search needs
+μ-loop words x order records₀ room₀ end tally₀ i₀ records room tally i = length order - i
 
 cast-power : tie.Need-cast-power Inv-loop μ-loop
-cast-power c =
-    let a = c .before .before .before .before .args in
-    omega (arith, few-negations (a .s .now) (a .x) (c .before .before .before .before .pre .0))
+cast-power c = omega (arith, c .before .before .before .before .pre .0 .few-negations)
 
 power-requires : tie.Need-power-requires Inv-loop μ-loop
-power-requires c κs =
-    let a = c .before .before .before .before .args in
-    omega (arith, few-negations (a .s .now) (a .x) (c .before .before .before .before .pre .0))
+power-requires c κs = omega (arith, c .before .before .before .before .pre .0 .few-negations)
 
 loop-holds : tie.Need-loop-holds Inv-loop μ-loop
 loop-holds c =
     let a = c .before .before .before .before .before .args in
-    (omega arith, refl, search needs, omega arith, along-first (a .s .now) (a .records .now))
+    (omega arith, refl, search needs, along-first (settingIn (a .x) (a .words .now)) (a .x .negations) (a .order .now) (a .records .now))
 
 mul-guess : tie.Need-mul-guess Inv-loop μ-loop
 mul-guess c = search needs
 
-array-read-guess : tie.Need-array-read-guess Inv-loop μ-loop
-array-read-guess c = search needs
+shared-slice-read-guess : tie.Need-shared-slice-read-guess Inv-loop μ-loop
+shared-slice-read-guess c = search needs
 
 slice-aggregate-advance : tie.Need-slice-aggregate-advance Inv-loop μ-loop
 slice-aggregate-advance c = search needs
 
 advance-requires : tie.Need-advance-requires Inv-loop μ-loop
 advance-requires c κs =
-    let l = c .before .before .before .before .loop in
-    let x = c .before .before .before .before .before in
+    let l = c .before .before .before .before .before .loop in
+    let x = c .before .before .before .before .before .before in
     let a = x .before .before .before .before .before .args in
     let pre = x .before .before .before .before .before .pre in
-    let told = c .before .before .before .loop-test .taken in (
-      (pre .0, omega (arith, c .before .before .if1 .taken, x .power .ensures), search needs),
+    let n = a .x .negations in
+    let s = settingIn (a .x) (a .words .now) in
+    let told : l .i < length (a .order .now) = omega (arith, c .before .before .before .before .loop-test .taken) in
+    let below : getD (a .order .now) (l .i) 0 < 2 ^ n = omega (arith, c .before .before .if1 .taken, x .power .ensures) in
+    let room = pow-mono (pre .0 .few-negations) in
+    let few = counts-few n (a .order .now) (pre .1) s (l .i) (l .inv .3) in
+    let fewer = views-fewer n (a .order .now) (pre .1) s (l .i) (l .inv .3) told below in (
+      (pre .0, below, search needs),
       (
-        omega (arith, l .inv .3, told),
-        omega (arith, l .inv .1, l .inv .3, pre .1, told),
-        along-levels (a .s .now) (a .x) (pre .0) (l .i) (l .tally) (l .records) (l .inv .4),
+        omega (arith, few, room),
+        omega (arith, fewer, room, l .inv .1, pre .2),
+        along-levels s n (a .order .now) (pre .1) (l .i) (l .tally) (l .records) (l .inv .3),
       ),
     )
 
@@ -80,33 +80,26 @@ loop-less c = search needs
 
 loop-again : tie.Need-loop-again Inv-loop μ-loop
 loop-again c =
-    let l = c .before .before .loop in
-    let x = c .before .before .before in
+    let l = c .before .before .before .loop in
+    let x = c .before .before .before .before in
     let a = x .before .before .before .before .before .args in
-    let accepted = x .before .before .before .before .before .pre .0 in
-    let told = c .before .loop-test .taken in
-    let entry = ap (λ z. getD z (l .i) 0) (x .before .before .guesses .ensures) in
-    let g = getD (x .before .before .guesses .result) (l .i) 0 in
+    let told : l .i < length (a .order .now) = omega (arith, c .before .before .loop-test .taken) in
+    let n = a .x .negations in
+    let s = settingIn (a .x) (a .words .now) in
+    let g = getD (a .order .now) (l .i) 0 in
     ⊎-elim
     (λ w.
-    let below : g < 2 ^ a .x .negations = omega (arith, w .0 .taken, x .power .ensures) in
-    let step = w .3 .ensures .1 in
-    came (holds (a .s .now) (a .records .now) (l .i + 1)) (w .7) (w .8) (w .9) (
+    let below : g < 2 ^ n = omega (arith, w .0 .taken, x .power .ensures) in
+    came (holds s n (a .order .now) (a .records .now) (l .i + 1)) (w .7) (w .8) (w .9) (
       omega arith,
       w .3 .ensures .0 ∙ l .inv .1,
       w .6 .given,
-      still-few (a .s .now) (a .x) accepted g (walkedIn (l .tally) (l .records)) step (l .i) (l .inv .3),
-      along-more (a .s .now) (a .x) accepted (l .i) g told entry (l .inv .4) below step,
+      along-more s n (a .order .now) (l .i) told (l .inv .3) below (w .3 .ensures .1),
     ))
     (λ w.
-    let beyond : 2 ^ a .x .negations ≤ g = omega (arith, w .0 .left, x .power .ensures) in
-    came (holds (a .s .now) (a .records .now) (l .i + 1)) (w .1) (w .2) (w .3) (
-      omega arith,
-      l .inv .1,
-      l .inv .2,
-      omega (arith, l .inv .3),
-      along-same (a .s .now) (a .x) accepted (l .i) g told entry (l .inv .4) beyond,
-    ))
+    let beyond : 2 ^ n ≤ g = omega (arith, w .0 .left, x .power .ensures) in
+    came (holds s n (a .order .now) (a .records .now) (l .i + 1)) (w .1) (w .2) (w .3)
+    (omega arith, l .inv .1, l .inv .2, along-same s n (a .order .now) (l .i) told (l .inv .3) beyond))
     (c .if1 .came)
 
 same-length : tie.Need-same-length Inv-loop μ-loop
@@ -114,14 +107,18 @@ same-length c = c .before .loop .inv .1
 
 returns : tie.Need-returns Inv-loop μ-loop
 returns c =
-    let x = c .before .before .before .before .before .before .before in
-    let a = x .args in
+    let start = c .before .before .before .before .before .before .before in
+    let a = start .args in
     let l = c .before .loop in
-    let e : l .i ≡ 4096 = omega (arith, l .inv .0, c .loop-test .left) in (
+    let n = a .x .negations in
+    let s = settingIn (a .x) (a .words .now) in
+    let few = counts-few n (a .order .now) (start .pre .1) s (l .i) (l .inv .3) .0 in
+    let end : l .i ≡ length (a .order .now) = omega (arith, l .inv .0, c .loop-test .left) in
+    let all = subst (λ i. walkedIn (l .tally) (l .records) ≡ walk s (passed n (a .order .now) i)) end (l .inv .3) in (
       l .inv .1,
       (
-        omega (arith, l .inv .3, x .pre .1),
-        along-whole (a .s .now) _ (subst (λ n. Along (a .s .now) n (walkedIn (l .tally) (l .records))) e (l .inv .4)),
+        omega (arith, few, pow-mono (start .pre .0 .few-negations), start .pre .2),
+        along-whole s n (a .order .now) (start .pre .0 .counted) (start .pre .1) all,
       ),
     )
 
@@ -131,12 +128,11 @@ walk-spec =
     (tie.spec
     Inv-loop
     μ-loop
-    guesses-requires
     cast-power
     power-requires
     loop-holds
     mul-guess
-    array-read-guess
+    shared-slice-read-guess
     slice-aggregate-advance
     advance-requires
     add-i

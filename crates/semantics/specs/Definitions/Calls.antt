@@ -1,36 +1,36 @@
--- Document 01, "Turned back at the door": what the calls for a guess, the listing and the query return, for every sheet, guess, atom and
--- number of words.
+-- Document 01, "Turned back at the door": what the calls for a guess, the listing and the query return, for every source, guess, atom and
+-- number of words. A source, `from`, is the setting that a call is said of, or the refusal that comes before all that is checked here. The
+-- calls sold have one: `ofSheet` (Check.antt) of the sheet's bytes, which refuses with 1 to 7.
 use Prim.Native.Nat.{ℕ, _*_, _^_}
+use mathlib.Core.Bool.{Bool, cond}
 use mathlib.Core.List.{List}
 use lib.Dec.{ltb}
 use lib.ListN.{length}
-use Rattle.semantics.specs.Definitions.Reading.{Reading, field, _then_, require}
-use Rattle.semantics.specs.Definitions.Sheet.{Sheet}
 use Rattle.semantics.specs.Definitions.Setting.{Setting, k}
-use Rattle.semantics.specs.Definitions.Check.{setting, opened}
-use Rattle.semantics.specs.Definitions.Returned.{Returned, accepted, returned, limited}
+use Rattle.semantics.specs.Definitions.Returned.{Returned, accepted, refusal, _and-then_, answer, limited}
 use Rattle.semantics.specs.Definitions.Verdict.{beliefSets, Verdict, verdict}
 use Rattle.semantics.specs.Definitions.Listing.{Tally, tallyOf, View, listing, words}
 use Rattle.semantics.specs.Definitions.Query.{Answer, query}
 
--- What a call that takes a guess or an atom checks first: 1 to 7, and then a refusal of its own, place 0, where that is not below a bound
-abbrev pub openedBelow : (bound : Setting → ℕ) (number : ℕ) → List ℕ → ℕ → Reading Sheet
-openedBelow bound number sheet n =
-    opened sheet then λ x end.
-    require (ltb n (bound (setting x))) number 0
-    (field x end)
+-- a source with one check more: the refusal of that number and place where it is not passed
+abbrev pub provided : (passed : Setting → Bool) (number place : ℕ) → (from : Returned Setting) → Returned Setting
+provided passed number place from = from and-then λ s. cond (passed s) (accepted s) (refusal number place)
+
+-- of a number n that has to be below a bound; place 0
+abbrev pub providedBelow : (bound : Setting → ℕ) (number : ℕ) → (from : Returned Setting) (n : ℕ) → Returned Setting
+providedBelow bound number from n = provided (λ s. ltb n (bound s)) number 0 from
 
 -- for a guess: "8, 0" where "guess not below 2^k"
-unfoldable pub openedFor : List ℕ → (guess : ℕ) → Reading Sheet
-openedFor = openedBelow (λ s. 2 ^ k s) 8
+unfoldable pub forGuess : (from : Returned Setting) (guess : ℕ) → Returned Setting
+forGuess = providedBelow (λ s. 2 ^ k s) 8
 
 -- for an atom: "10, 0" where "queried atom number not below the atom count"
-unfoldable pub openedForAtom : List ℕ → (atom : ℕ) → Reading Sheet
-openedForAtom = openedBelow (λ s. s .atoms) 10
+unfoldable pub forAtom : (from : Returned Setting) (atom : ℕ) → Returned Setting
+forAtom = providedBelow (λ s. s .atoms) 10
 
 -- "Verdict on a guess"
-unfoldable pub verdictCall : List ℕ → (guess : ℕ) → Returned Verdict
-verdictCall sheet g = returned (openedFor sheet g) (λ x. accepted (verdict (setting x) g))
+unfoldable pub verdictCall : (from : Returned Setting) (guess : ℕ) → Returned Verdict
+verdictCall from g = answer (λ s. verdict s g) (forGuess from g)
 
 -- the sets w into so many words: 9 where "more sets than words"
 abbrev pub setsInto : (words : ℕ) → List ℕ → Returned (List ℕ)
@@ -38,8 +38,8 @@ setsInto words w = limited (length w) words (length w) w
 
 -- "Belief sets of a guess: W by rising number, into a lent buffer of 16-bit words, with the count; an empty W gives count 0." The count is
 -- `answer length` of it. ("Words after the last set keep their contents.": `afterwards`.)
-unfoldable pub beliefSetsCall : List ℕ → (guess words : ℕ) → Returned (List ℕ)
-beliefSetsCall sheet g words = returned (openedFor sheet g) (λ x. setsInto words (beliefSets (setting x) g))
+unfoldable pub beliefSetsCall : (from : Returned Setting) (guess words : ℕ) → Returned (List ℕ)
+beliefSetsCall from g words = forGuess from g and-then λ s. setsInto words (beliefSets s g)
 
 -- "The result has views, covered, ruled, tested, empty, other." And the views, which are written as records.
 pub record Result : Type 0 where
@@ -57,9 +57,9 @@ recordsOf r = words (r .views)
 abbrev pub resultInto : (needed : ℕ → ℕ) (words : ℕ) → Result → Returned Result
 resultInto needed words r = limited (needed (length (r .views))) words (length (r .views)) r
 
--- the listing of a sheet into so many words
-abbrev pub listInto : (needed : ℕ → ℕ) → List ℕ → (words : ℕ) → Returned Result
-listInto needed sheet words = returned (opened sheet) (λ x. resultInto needed words (resultOf (setting x)))
+-- a listing into so many words
+abbrev pub listInto : (needed : ℕ → ℕ) (from : Returned Setting) (words : ℕ) → Returned Result
+listInto needed from words = from and-then λ s. resultInto needed words (resultOf s)
 
 -- "4 times views"
 abbrev pub recordsNeed : (views : ℕ) → ℕ
@@ -67,9 +67,9 @@ recordsNeed views = 4 * views
 
 -- "Order and listing"; 9 where these are "over the words". The six numbers are `answer (λ r. r .tally)` of it, the lent buffer then
 -- `afterwards recordsOf` of it. ("Words after the last record keep their contents.")
-abbrev pub listCall : List ℕ → (words : ℕ) → Returned Result
+abbrev pub listCall : (from : Returned Setting) (words : ℕ) → Returned Result
 listCall = listInto recordsNeed
 
 -- "Query of an atom"
-unfoldable pub queryCall : List ℕ → (atom : ℕ) → Returned Answer
-queryCall sheet a = returned (openedForAtom sheet a) (λ x. accepted (query (setting x) a))
+unfoldable pub queryCall : (from : Returned Setting) (atom : ℕ) → Returned Answer
+queryCall from a = answer (λ s. query s a) (forAtom from a)

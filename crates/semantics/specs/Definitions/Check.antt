@@ -1,4 +1,4 @@
--- Document 01, "Turned back at the door": refusal 7, and what the check does.
+-- Document 01, "Turned back at the door": refusal 7, what the check answers, and the source that a sheet is.
 use Prim.Native.Nat.{ℕ}
 use lib.Dec.{leb}
 use lib.ListN.{length}
@@ -6,7 +6,7 @@ use mathlib.Core.List.{List}
 use Rattle.semantics.specs.Definitions.Reading.{Reading, field, _then_, require}
 use Rattle.semantics.specs.Definitions.Sheet.{Sheet, atoms, epistemicRules, sections}
 use Rattle.semantics.specs.Definitions.Setting.{Setting, settingOf, k}
-use Rattle.semantics.specs.Definitions.Returned.{Returned, accepted, returned}
+use Rattle.semantics.specs.Definitions.Returned.{Returned, read, answer}
 
 -- "k of 12 passes, 13 gives 7."
 abbrev pub mostNegations : ℕ
@@ -23,6 +23,14 @@ opened s =
     require (leb (k (setting x)) mostNegations) 7 0
     (field x end)
 
+-- something of what an accepted sheet says; or the sheet's refusal, 1 to 7
+abbrev pub said : {A : Type 0} → (Sheet → A) → List ℕ → Returned A
+said of s = answer of (read (opened s))
+
+-- The source that a sheet is: its setting, or its refusal. All calls but the check are said of it.
+unfoldable pub ofSheet : List ℕ → Returned Setting
+ofSheet = said setting
+
 -- "The check of an accepted sheet answers with the numbers of atoms, of rules and of negations (k, below)."
 pub record Numbers : Type 0 where
   pub atoms : ℕ
@@ -36,4 +44,4 @@ abbrev pub numbersOf : Sheet → Numbers
 numbersOf x = numbers (atoms x) (length (x .rules)) (k (setting x))
 
 unfoldable pub check : List ℕ → Returned Numbers
-check s = returned (opened s) (λ x. accepted (numbersOf x))
+check = said numbersOf

@@ -2,6 +2,7 @@
 use Prim.Native.Nat.{ℕ, _+_, _*_, _/_, _%_}
 use mathlib.Core.List.{List, [], _∷_, _++_}
 use Rattle.sets.specs.Lists.{flat}
+use Rattle.semantics.specs.Definitions.Setting.{Setting}
 use Rattle.semantics.specs.Definitions.Returned.{Returned, accepted, refusal}
 use Rattle.semantics.specs.Definitions.Listing.{six}
 use Rattle.semantics.specs.Definitions.Calls.{Result, recordsOf, listInto}
@@ -25,8 +26,8 @@ abbrev pub deskNeed : (views : ℕ) → ℕ
 deskNeed views = 6 + 4 * views
 
 -- 9 where these are "over the words"; so many bytes have half as many words
-abbrev pub deskCall : List ℕ → (bytes : ℕ) → Returned Result
-deskCall sheet bytes = listInto deskNeed sheet (bytes / 2)
+abbrev pub deskCall : (from : Returned Setting) (bytes : ℕ) → Returned Result
+deskCall from bytes = listInto deskNeed from (bytes / 2)
 
 -- "That call returns a 32-bit number, 0, or the refusal's number times 65,536 plus its place". The lent bytes then are `afterwards deskBytes`
 -- of it. ("an odd last byte [..] is kept")

@@ -5,7 +5,6 @@ use mathlib.Core.List.{List, _++_}
 use lib.Dec.{leb}
 use lib.ListN.{length, drop}
 use Rattle.semantics.specs.Definitions.Reading.{Reading, field, refused}
-use Rattle.semantics.specs.Definitions.Sheet.{Sheet}
 
 -- What a call returns: its values where it is accepted, or the refusal's number and place (a place in the sheet, or the other number that
 -- the table "Returned" gives).
@@ -13,19 +12,24 @@ pub data Returned (A : Type 0) : Type 0 where
   accepted : (values : A) → Returned A
   refusal : (number place : ℕ) → Returned A
 
--- the refusal that ended the reading, or what is returned for the sheet
-abbrev pub returned : {A : Type 0} → Reading Sheet → (Sheet → Returned A) → Returned A
-returned (field x end) of = of x
-returned (refused number place) of = refusal number place
+-- what was read, or the refusal that ended the reading
+abbrev pub read : {A : Type 0} → Reading A → Returned A
+read (field value end) = accepted value
+read (refused number place) = refusal number place
+
+infixr 30 _and-then_
+-- a step of a call, and then the rest of it, which takes the values of the step; where the step is refused, so is the call
+abbrev pub _and-then_ : {A B : Type 0} → Returned A → (A → Returned B) → Returned B
+(accepted values) and-then rest = rest values
+(refusal number place) and-then rest = refusal number place
+
+-- something of the values; a refusal stays as it is
+abbrev pub answer : {A B : Type 0} → (A → B) → Returned A → Returned B
+answer of r = r and-then λ values. accepted (of values)
 
 -- values that need so many words, once all else is judged: "9, number of sets or views" where there are fewer
 abbrev pub limited : {A : Type 0} → (needed words number : ℕ) → A → Returned A
 limited needed words number values = cond (leb needed words) (accepted values) (refusal 9 number)
-
--- what of the values the answer itself has, where the rest goes into a lent buffer
-abbrev pub answer : {A B : Type 0} → (A → B) → Returned A → Returned B
-answer of (accepted values) = accepted (of values)
-answer of (refusal number place) = refusal number place
 
 -- "When a call is accepted, whatever part of a lent buffer its answer doesn't fill keeps its contents.": a lent buffer after the words ws
 -- are written to its front

@@ -13,10 +13,10 @@ use lib.ListN.{length}
 use Rattle.semantics.specs.Definitions.Reading.{field, refused}
 use Rattle.semantics.specs.Definitions.Sheet.{Sheet, ruleOfMasks, longestSheet, sections}
 use Rattle.semantics.specs.Definitions.Setting.{Setting, settingOf, k}
-use Rattle.semantics.specs.Definitions.Check.{mostNegations, setting, opened, Numbers, numbers, numbersOf, check}
-use Rattle.semantics.specs.Definitions.Returned.{accepted, refusal, returned}
+use Rattle.semantics.specs.Definitions.Check.{mostNegations, setting, opened, ofSheet, Numbers, numbers, numbersOf, check}
+use Rattle.semantics.specs.Definitions.Returned.{accepted, refusal}
 use Rattle.semantics.specs.Theorems.Reading.{then-field, require-refused}
-use Rattle.semantics.specs.Theorems.Returned.{SheetOf, was-accepted, reading-refused}
+use Rattle.semantics.specs.Theorems.Source.{said-accepted, said-refused, sheet-accepted, sheet-refused}
 use Rattle.semantics.specs.Theorems.Places.{refusal-place, refusal-number, sections-number}
 use Rattle.semantics.specs.Theorems.Layout.{IsBytes, sheetBytes, Fits}
 use Rattle.semantics.specs.Theorems.Fitting.{fits-accepted}
@@ -37,15 +37,14 @@ pub record LaidOut (s : List ℕ) (n : Numbers) : Type 0 where
 
 pub check-accepts : (names rules : List (List ℕ)) → Fits names rules → check (sheetBytes names rules) ≡ accepted (numbersFor names rules)
 unfolding check
-check-accepts names rules f = ap (λ r. returned r (λ x. accepted (numbersOf x))) (fits-accepted names rules f)
+check-accepts names rules f = said-accepted numbersOf (sheetBytes names rules) (numbersFor names rules) .1 (_, _, fits-accepted names rules f, refl)
 
 pub check-exactly : (s : List ℕ) → IsBytes s → (n : Numbers) → check s ≡ accepted n ↔ LaidOut s n
 unfolding check
 check-exactly s small n = (
   λ e.
-      let (x, end, d, f) = was-accepted (λ x. accepted (numbersOf x)) (opened s) e in
+      let (x, end, d, told) = said-accepted numbersOf s n .0 e in
       let (names, rules, fits, laid, same, _) = accepted-exactly s small x end .0 d in
-      let told : n ≡ numbersOf x = cc in
       record { names = names; rules = rules; fit = fits; layout = laid; counted = told ∙ ap numbersOf same },
   λ l. ap check (l .layout) ∙ check-accepts (l .names) (l .rules) (l .fit) ∙ ap accepted (sym (l .counted)),
 )
@@ -57,12 +56,12 @@ laid-out-read s n l =
     let (x, end, e, _) = then-field (sections s) _ (ap opened (l .layout) ∙ fits-accepted (l .names) (l .rules) (l .fit)) in
     (x, end, e)
 
--- the sheet that was accepted
-pub checked-sheet : (s : List ℕ) {n : Numbers} → check s ≡ accepted n → (o : Setting) × SheetOf s o
+-- the setting of a sheet that was accepted
+pub checked-sheet : (s : List ℕ) {n : Numbers} → check s ≡ accepted n → (o : Setting) × (ofSheet s ≡ accepted o)
 unfolding check
-checked-sheet s e =
-    let (x, end, d, _) = was-accepted (λ x. accepted (numbersOf x)) (opened s) e in
-    (setting x, record { says = x; end = end; accepts = d; means = refl })
+checked-sheet s {n} e =
+    let (x, end, d, _) = said-accepted numbersOf s n .0 e in
+    (setting x, sheet-accepted s (setting x) .1 (x, end, d, refl))
 
 -- ---- refused
 module _ (s : List ℕ) (number place : ℕ) where
@@ -104,7 +103,7 @@ module _ (s : List ℕ) (number place : ℕ) where
 
   check-opened : check s ≡ refusal number place ↔ (opened s ≡ refused number place)
   unfolding check
-  check-opened = (reading-refused numbersOf (opened s), ap (λ r. returned r (λ x. accepted (numbersOf x))))
+  check-opened = said-refused numbersOf s number place
 
   -- and 7 for nothing else
   pub seven-over : number ≡ 7 → Refuses → OverNegations
@@ -118,3 +117,7 @@ module _ (s : List ℕ) (number place : ℕ) where
       let r = check-opened .0 e in
       let (low, high) = refusal-number s number place r in
       (low, high, refusal-place s number place r)
+
+  -- the source that a sheet is, is refused exactly as the check refuses
+  pub refused-as-checked : ofSheet s ≡ refusal number place ↔ (check s ≡ refusal number place)
+  refused-as-checked = (λ e. check-opened .1 (sheet-refused s number place .0 e), λ e. sheet-refused s number place .1 (check-opened .0 e))

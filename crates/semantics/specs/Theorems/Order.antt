@@ -5,7 +5,7 @@ use mathlib.Core.List.{List}
 use mathlib.Core.Logic.{_↔_, _⊎_, inl, inr}
 use native.Mathlib.Omega.{arith}
 use native.Mathlib.Nat.{lt-of-lt-of-le}
-use lib.Dec.{eqb, ltb}
+use lib.Dec.{eqb}
 use lib.ListN.{length}
 use lib.Pow.{pow-mono}
 use borrow.Author.Tests.{ltb-true, lt-ltb}
@@ -15,7 +15,7 @@ use Rattle.sets.specs.Pairwise.{upTo-rising, upTo-distinct, downFrom-falling, P
 use Rattle.sets.specs.Counting.{as-long, all-numbers}
 use Rattle.sets.specs.Sets.{Below, size}
 use Rattle.sets.specs.Size.{size-below}
-use Rattle.semantics.specs.Definitions.Order.{order}
+use Rattle.semantics.specs.Definitions.Order.{order, membersBelow}
 
 -- g stands before h in the order
 abbrev pub Before : ℕ → ℕ → Type 0
@@ -69,7 +69,7 @@ module _ (k : ℕ) (l : List ℕ) where
       ∙ length-upTo (2 ^ k)
 
 -- the members below 2^j of an enumeration of the guesses of k negations enumerate those of j
-pub enumerates-members : (j k : ℕ) → j ≤ k → (l : List ℕ) → Enumerates k l → Enumerates j (keep (λ g. ltb g (2 ^ j)) l)
+pub enumerates-members : (j k : ℕ) → j ≤ k → (l : List ℕ) → Enumerates k l → Enumerates j (membersBelow j l)
 enumerates-members j k h l en = record {
   below = λ g m. ltb-true g (2 ^ j) (among-keep _ l .0 m .1);
   all = λ g p. among-keep _ l .1 (en .all g (lt-of-lt-of-le p (pow-mono h)), lt-ltb g (2 ^ j) p);
@@ -116,7 +116,7 @@ order-counted k l = (
 )
 
 -- "for smaller k its members below 2^k are taken"
-pub order-members : (j k : ℕ) → j ≤ k → keep (λ g. ltb g (2 ^ j)) (order k) ≡ order j
+pub order-members : (j k : ℕ) → j ≤ k → membersBelow j (order k) ≡ order j
 order-members j k h =
     let en = enumerates-members j k h (order k) (order-enumerates k) in
-    order-only j (keep (λ g. ltb g (2 ^ j)) (order k)) (pairwise-keep _ _ (order k) (order-sorted k)) (λ g. (en .below g, en .all g))
+    order-only j (membersBelow j (order k)) (pairwise-keep _ _ (order k) (order-sorted k)) (λ g. (en .below g, en .all g))

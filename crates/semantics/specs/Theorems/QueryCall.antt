@@ -1,41 +1,42 @@
--- What the query returns: refusal 10, exactly when; otherwise the answer for the sheet's setting. Assumes nothing.
+-- What the query returns: refusal 10, exactly when; otherwise the answer for the setting. Assumes nothing.
 use Prim.Native.Nat.{ℕ}
-use mathlib.Core.Path.{_≡_, sym, ap, _∙_}
-use mathlib.Core.List.{List}
+use mathlib.Core.Path.{_≡_, ap}
 use mathlib.Core.Logic.{_↔_, _⊎_}
-use Rattle.semantics.specs.Definitions.Reading.{refused}
 use Rattle.semantics.specs.Definitions.Setting.{Setting}
-use Rattle.semantics.specs.Definitions.Check.{setting, opened}
-use Rattle.semantics.specs.Definitions.Returned.{accepted, refusal, returned}
+use Rattle.semantics.specs.Definitions.Returned.{Returned, accepted, refusal, answer}
 use Rattle.semantics.specs.Definitions.Query.{Answer, query}
-use Rattle.semantics.specs.Definitions.Calls.{openedForAtom, queryCall}
-use Rattle.semantics.specs.Theorems.Below.{BelowOf, below-returned, below-returns, NotBelow, refused-below}
-use Rattle.semantics.specs.Theorems.Returned.{reading-refused}
+use Rattle.semantics.specs.Definitions.Calls.{forAtom, queryCall}
+use Rattle.semantics.specs.Theorems.Returned.{answer-accepted, answer-refused}
+use Rattle.semantics.specs.Theorems.Source.{BelowOf, below-accepted, NotBelow, below-refused}
 
--- the bytes are an accepted sheet, s is its setting, and a is an atom of it
-abbrev pub AtomOf : (sheet : List ℕ) (a : ℕ) (s : Setting) → Type 0
+-- s is the setting of the source, and a is an atom of it
+abbrev pub AtomOf : (from : Returned Setting) (a : ℕ) (s : Setting) → Type 0
 AtomOf = BelowOf (λ s. s .atoms)
 
-module _ (sheet : List ℕ) (a : ℕ) where
-  pub refused-for-atom : (number place : ℕ) → openedForAtom sheet a ≡ refused number place
-      ↔ ((opened sheet ≡ refused number place) ⊎ NotBelow (λ s. s .atoms) 10 sheet a number place)
-  unfolding openedForAtom
-  refused-for-atom = refused-below (λ s. s .atoms) 10 sheet a
+-- a is not below the atom count, and the refusal is "10, 0"
+abbrev pub NoAtom : (from : Returned Setting) (a number place : ℕ) → Type 0
+NoAtom = NotBelow (λ s. s .atoms) 10
 
-  pub query-refused : (number place : ℕ) → queryCall sheet a ≡ refusal number place ↔ (openedForAtom sheet a ≡ refused number place)
+module _ (from : Returned Setting) (a : ℕ) where
+  pub for-atom-accepted : (s : Setting) → forAtom from a ≡ accepted s ↔ AtomOf from a s
+  unfolding forAtom
+  for-atom-accepted = below-accepted (λ s. s .atoms) 10 from a
+
+  -- refused: the source is, or the atom is not below the atom count
+  pub for-atom-refused : (number place : ℕ) → forAtom from a ≡ refusal number place ↔ ((from ≡ refusal number place) ⊎ NoAtom from a number place)
+  unfolding forAtom
+  for-atom-refused = below-refused (λ s. s .atoms) 10 from a
+
+  pub query-refused : (number place : ℕ) → queryCall from a ≡ refusal number place ↔ (forAtom from a ≡ refusal number place)
   unfolding queryCall
-  query-refused number place = (
-    reading-refused (λ x. query (setting x) a) (openedForAtom sheet a),
-    ap (λ r. returned r (λ x. accepted (query (setting x) a))),
-  )
+  query-refused number place = (answer-refused (λ s. query s a) (forAtom from a), ap (answer (λ s. query s a)))
 
-  pub query-is : {s : Setting} → AtomOf sheet a s → queryCall sheet a ≡ accepted (query s a)
-  unfolding openedForAtom queryCall
-  query-is h =
-      below-returns (λ s. s .atoms) 10 sheet a (λ x. accepted (query (setting x) a)) h ∙ ap (λ s. accepted (query s a)) (sym (h .of .means))
+  pub query-is : {s : Setting} → AtomOf from a s → queryCall from a ≡ accepted (query s a)
+  unfolding queryCall
+  query-is {s} h = ap (answer (λ s. query s a)) (for-atom-accepted s .1 h)
 
-  pub is-query : {q : Answer} → queryCall sheet a ≡ accepted q → (s : Setting) × AtomOf sheet a s × (query s a ≡ q)
-  unfolding openedForAtom queryCall
+  pub is-query : {q : Answer} → queryCall from a ≡ accepted q → (s : Setting) × AtomOf from a s × (query s a ≡ q)
+  unfolding queryCall
   is-query e =
-      let (x, h, d) = below-returned (λ s. s .atoms) 10 sheet a (λ x. accepted (query (setting x) a)) e in
-      (setting x, h, cc)
+      let (s, d, f) = answer-accepted (λ s. query s a) (forAtom from a) e in
+      (s, for-atom-accepted s .0 d, f)

@@ -55,7 +55,7 @@ use Rattle.sheet.proofs.fetch.Statement as stated
 use Rattle.sheet.proofs.fetch.Code as code
 
 abbrev stayed : Stays (fetch.ended .signature .params) (fetch.ended .kept)
-stayed = (bytes-stay, (number-stays, (number-stays, tt)))
+stayed = (bytes-stay, (number-stays, (number-stays, (number-stays, tt))))
 
 module _ {M : Type 1} (𝓤 : URA M) (H : Heap 𝓤) (A : Atoms 𝓤) (mem : Memory → SProp 𝓤) (run : Routine → Fun 𝓤) where
   -- the contracts of the callees
@@ -66,18 +66,19 @@ module _ {M : Type 1} (𝓤 : URA M) (H : Heap 𝓤) (A : Atoms 𝓤) (mem : Mem
   RuleOf = tripleOf 𝓤 H A rule-of.signature (rule-of.spec 𝓤 H A mem run)
 
 module _ {M : Type 1} (𝓤 : URA M) (H : Heap 𝓤) (A : Atoms 𝓤) (W : Given 𝓤 H A) (mem : Memory → SProp 𝓤) (run : Routine → Fun 𝓤)
-    (κ : Lft) (q : Share) (s : RefT (List ℕ)) (place n : ℕ) (place-fits : place < 2 ^ 64) (fits : n < 2 ^ 64) (begin : RulesBegin (now s) place) where
+    (κ : Lft) (q : Share) (s : RefT (List ℕ)) (place many n : ℕ) (place-fits : place < 2 ^ 64) (many-fits : many < 2 ^ 64) (fits : n < 2 ^ 64)
+    (begin : RulesBegin (now s) place many) where
   abbrev clauses : Clauses 𝓤 fetch.ended
   clauses = fetch.clauses 𝓤 H A mem run
 
   abbrev passed : Vals fetch.signature (κ, tt)
-  passed = (ofBytes s ∷ [], (ofNumber place ∷ [], (ofNumber n ∷ [], tt)))
+  passed = (ofBytes s ∷ [], (ofNumber place ∷ [], (ofNumber many ∷ [], (ofNumber n ∷ [], tt))))
 
   abbrev bound : walkOf 𝓤 H A fetch.ended stayed clauses .Ghost
-  bound = (((κ, tt), (q, tt), tt, (s, (place, (n, tt))), passed), tt)
+  bound = (((κ, tt), (q, tt), tt, (s, (place, (many, (n, tt)))), passed), tt)
 
   abbrev Entry : SProp 𝓤
-  Entry = onEntry 𝓤 H A fetch.signature (κ, tt) (q, tt) (s, (place, (n, tt))) passed
+  Entry = onEntry 𝓤 H A fetch.signature (κ, tt) (q, tt) (s, (place, (many, (n, tt)))) passed
 
   abbrev Post : Val → SProp 𝓤
   Post = walkOf 𝓤 H A fetch.ended stayed clauses .post bound
@@ -91,20 +92,20 @@ module _ {M : Type 1} (𝓤 : URA M) (H : Heap 𝓤) (A : Atoms 𝓤) (W : Given
 
   -- the call of `opened_at`
   abbrev values : Vals opened-at.signature (κ, tt)
-  values = (ofBytes s ∷ [], (ofNumber place ∷ [], tt))
+  values = (ofBytes s ∷ [], (ofNumber place ∷ [], (ofNumber many ∷ [], tt)))
 
   abbrev to-open : OpenedAt 𝓤 H A mem run .Ghost
-  to-open = (((κ, tt), (q, tt), tt, (s, (place, tt)), values), tt)
+  to-open = (((κ, tt), (q, tt), tt, (s, (place, (many, tt))), values), tt)
 
-  asked : ent 𝓤 (onEntry 𝓤 H A opened-at.signature (κ, tt) (q, tt) (s, (place, tt)) values) (OpenedAt 𝓤 H A mem run .pre to-open)
-  asked = qed W ((‵ (flft κ q) ⊛ ‵ ftrue) ∷ ‵ (owns (Bytes κ ∷ usize ∷ []) (s, (place, tt)) values) ∷ []) ∵ says ! begin $ frame ! $ done !
+  asked : ent 𝓤 (onEntry 𝓤 H A opened-at.signature (κ, tt) (q, tt) (s, (place, (many, tt))) values) (OpenedAt 𝓤 H A mem run .pre to-open)
+  asked = qed W ((‵ (flft κ q) ⊛ ‵ ftrue) ∷ ‵ (owns (Bytes κ ∷ usize ∷ usize ∷ []) (s, (place, (many, tt))) values) ∷ []) ∵ says ! begin $ frame ! $ done !
 
   goes-open : ent 𝓤 Entry (sep 𝓤 (OpenedAt 𝓤 H A mem run .pre to-open) (sem 𝓤 H A Own))
   goes-open =
-      qed W ((‵ (flft κ q) ⊛ ‵ ftrue) ∷ ‵ (owns (Bytes κ ∷ usize ∷ usize ∷ []) (s, (place, (n, tt))) passed) ∷ []) ∵
+      qed W ((‵ (flft κ q) ⊛ ‵ ftrue) ∷ ‵ (owns (Bytes κ ∷ usize ∷ usize ∷ usize ∷ []) (s, (place, (many, (n, tt)))) passed) ∷ []) ∵
       move ! (1 ∷ []) $ fsplit ! $ move ! (1 ∷ []) $ drop ! $
       use1 W (‵ Own ⊛ ‵ Own) (shr-slice-copy 𝓤 H A W (named 0) κ u8 .twice s (ofBytes s ∷ [])) $ split ! $
-      nothing ! $ number ! place place-fits $ fjoin ! $ move ! (1 ∷ 0 ∷ []) $ fjoin ! $
+      nothing ! $ number ! many many-fits $ fjoin ! $ number ! place place-fits $ fjoin ! $ move ! (1 ∷ 0 ∷ []) $ fjoin ! $
       -- [what the callee's parameters own; what the slice owns; the token]
       move ! (2 ∷ 0 ∷ []) $ use2 W (raw (OpenedAt 𝓤 H A mem run .pre to-open)) asked $ frame ! $ done !
 
@@ -112,10 +113,10 @@ module _ {M : Type 1} (𝓤 : URA M) (H : Heap 𝓤) (A : Atoms 𝓤) (W : Given
   abbrev to-rule : OpenedSheet → Val → RuleOf 𝓤 H A mem run .Ghost
   to-rule r u = (((κ, tt), (q, tt), tt, (r, (n, tt)), (u ∷ [], (ofNumber n ∷ [], tt))), tt)
 
-  goes-rule : (r : OpenedSheet) (u : Val) → r .bytes ≡ s → r .«rules_at» ≡ place
+  goes-rule : (r : OpenedSheet) (u : Val) → r .bytes ≡ s → r .«rules_at» ≡ place → r .rules ≡ many
       → ent 𝓤 (⋆ 𝓤 H A (‵ (Held (κ, tt) .own r (u ∷ [])) ∷ (‵ (flft κ q) ⊛ ‵ ftrue) ∷ [])) (RuleOf 𝓤 H A mem run .pre (to-rule r u))
-  goes-rule r u e f =
-      let there : RulesBegin (now (r .bytes)) (r .«rules_at») = rw (e, f) begin in
+  goes-rule r u e f g =
+      let there : RulesBegin (now (r .bytes)) (r .«rules_at») (r .rules) = rw (e, f, g) begin in
       qed W (‵ (Held (κ, tt) .own r (u ∷ [])) ∷ (‵ (flft κ q) ⊛ ‵ ftrue) ∷ []) ∵ says ! there $
       nothing ! $ number ! n fits $ fjoin ! $ move ! (1 ∷ 0 ∷ []) $ fjoin ! $ move ! (1 ∷ 0 ∷ []) $ frame ! $ done !
 
@@ -123,33 +124,34 @@ module _ {M : Type 1} (𝓤 : URA M) (H : Heap 𝓤) (A : Atoms 𝓤) (W : Given
       → ent 𝓤 (⋆ 𝓤 H A (‵ (F.the-row .own t (u ∷ [])) ∷ (‵ (flft κ q) ⊛ ‵ ftrue) ∷ ‵ Own ∷ [])) (Post u)
   exits t u e =
       qed W (‵ (F.the-row .own t (u ∷ [])) ∷ (‵ (flft κ q) ⊛ ‵ ftrue) ∷ ‵ Own ∷ []) ∵
-      suffices ! _ (ends-at 𝓤 H A fetch.ended stayed clauses W bound u t (tt, (tt, (tt, tt))) (tt, (tt, (tt, tt)))) $ says ! e $
-      move ! (1 ∷ []) $ frame ! $ nothing ! $ number ! n fits $ fjoin ! $ number ! place place-fits $ fjoin ! $
-      move ! (2 ∷ 0 ∷ []) $ fjoin ! $ frame ! $ done !
+      suffices ! _ (ends-at 𝓤 H A fetch.ended stayed clauses W bound u t (tt, (tt, (tt, (tt, tt)))) (tt, (tt, (tt, (tt, tt))))) $ says ! e $
+      move ! (1 ∷ []) $ frame ! $ nothing ! $ number ! n fits $ fjoin ! $ number ! many many-fits $ fjoin ! $
+      number ! place place-fits $ fjoin ! $ move ! (2 ∷ 0 ∷ []) $ fjoin ! $ frame ! $ done !
 
   module _ (C : Calls 𝓤 H) (Λ : Loops 𝓤 H) (fm : FmC 𝓤 H (W .laws) C)
       (known-open : Triple 𝓤 (C #opened-at) (OpenedAt 𝓤 H A mem run)) (known-rule : Triple 𝓤 (C #rule-of) (RuleOf 𝓤 H A mem run)) where
-    walk : Is (Bytes κ) s (ofBytes s ∷ []) → ent 𝓤 Entry (WpFn 𝓤 H C Λ code.function (ofBytes s ∷ ofNumber place ∷ ofNumber n ∷ []) Post)
+    walk : Is (Bytes κ) s (ofBytes s ∷ []) → ent 𝓤 Entry (WpFn 𝓤 H C Λ code.function (ofBytes s ∷ ofNumber place ∷ ofNumber many ∷ ofNumber n ∷ []) Post)
     walk p =
-        qed W (raw Entry ∷ []) ∵ enter ! C Λ code.function (ofBytes s ∷ ofNumber place ∷ ofNumber n ∷ []) _ $
-        alloc1 ! (λ l₀. alloc1 ! (λ l₁. alloc1 ! (λ l₂. alloc1 ! (λ l₃. alloc1 ! (λ l₄. alloc0 ! $ params1 ! $
-        pass1 ! (init ! 6 refl (shr-slice-lawful 𝓤 H A W (named 0) κ u8 .typed s (ofBytes s ∷ []) p .0)) $
-        pass1 ! (init ! 4 refl (tt, record { fits = place-fits })) $ pass1 ! (init ! 2 refl (tt, record { fits = fits })) $ pass0 ! $
-        move ! (10 ∷ []) $ use1 W (raw (OpenedAt 𝓤 H A mem run .pre to-open) ⊛ ‵ Own) goes-open $ split ! $
-        -- [what the callee asks; what the slice owns; room for _4; …; _3; …; _2; …; _1; …; room for _0; …]
-        calls-at ! fm (OpenedAt 𝓤 H A mem run) known-open to-open (and-then ! (value ! 8 refl) (and-then ! (value ! 6 refl) (no-more !))) (λ u.
-        answered ! tt opened-at.ended (opened-at.clauses 𝓤 H A mem run) to-open u (λ r. (r .bytes ≡ s) × (r .«rules_at» ≡ place)) (λ r e. id⊢ 𝓤 _) (λ r e is.
-        -- [what the opened sheet owns; the token; what the slice owns; room for _4; …]
+        qed W (raw Entry ∷ []) ∵ enter ! C Λ code.function (ofBytes s ∷ ofNumber place ∷ ofNumber many ∷ ofNumber n ∷ []) _ $
+        alloc1 ! (λ l₀. alloc1 ! (λ l₁. alloc1 ! (λ l₂. alloc1 ! (λ l₃. alloc1 ! (λ l₄. alloc1 ! (λ l₅. alloc0 ! $ params1 ! $
+        pass1 ! (init ! 8 refl (shr-slice-lawful 𝓤 H A W (named 0) κ u8 .typed s (ofBytes s ∷ []) p .0)) $
+        pass1 ! (init ! 6 refl (tt, record { fits = place-fits })) $ pass1 ! (init ! 4 refl (tt, record { fits = many-fits })) $
+        pass1 ! (init ! 2 refl (tt, record { fits = fits })) $ pass0 ! $
+        move ! (12 ∷ []) $ use1 W (raw (OpenedAt 𝓤 H A mem run .pre to-open) ⊛ ‵ Own) goes-open $ split ! $
+        -- [what the callee asks; what the slice owns; room for _5; …; _4; …; _3; …; _2; …; _1; …; room for _0; …]
+        calls-at ! fm (OpenedAt 𝓤 H A mem run) known-open to-open (and-then ! (value ! 10 refl) (and-then ! (value ! 8 refl) (and-then ! (value ! 6 refl) (no-more !)))) (λ u.
+        answered ! tt opened-at.ended (opened-at.clauses 𝓤 H A mem run) to-open u (λ r. (r .bytes ≡ s) × (r .«rules_at» ≡ place) × (r .rules ≡ many)) (λ r e. id⊢ 𝓤 _) (λ r e is.
+        -- [what the opened sheet owns; the token; what the slice owns; room for _5; …]
         land ! (from ! (stop !)) (init ! 3 refl (LL.lawful (T.the-type local) (T′.the-laws local) 𝓤 H A W .typed r _ is .0)) $
-        use2 W (raw (RuleOf 𝓤 H A mem run .pre (to-rule r u))) (goes-rule r u (e .0) (e .1)) $
+        use2 W (raw (RuleOf 𝓤 H A mem run .pre (to-rule r u))) (goes-rule r u (e .0) (e .1) (e .2)) $
         calls-at ! fm (RuleOf 𝓤 H A mem run) known-rule (to-rule r u) (and-then ! (value ! 2 refl) (and-then ! (value ! 4 refl) (no-more !))) (λ u′.
         answered ! tt rule-of.ended (rule-of.clauses 𝓤 H A mem run) (to-rule r u) u′ (λ t. RuleByNumber (now (r .bytes)) n t) (λ t e′. id⊢ 𝓤 _) (λ t e′ is′.
-        -- [the result; the token; what the slice owns; _4; …; _3; …; _2; …; _1; …; room for _0; …]
-        land ! (from ! (stop !)) (init ! 11 refl (EL.lawful F.the-type F′.the-laws 𝓤 H A W tt .typed t _ is′ .0)) $
-        returns ! (look ! 11 refl) $ forget ! 3 refl $ forget ! 5 refl $ forget ! 7 refl $ forget ! 9 refl $ forget ! 11 refl $
-        move ! (11 ∷ 12 ∷ []) $ free1 ! $ move ! (9 ∷ 10 ∷ []) $ free1 ! $ move ! (7 ∷ 8 ∷ []) $ free1 ! $
+        -- [the result; the token; what the slice owns; _5; …; _4; …; _3; …; _2; …; _1; …; room for _0; …]
+        land ! (from ! (stop !)) (init ! 13 refl (EL.lawful F.the-type F′.the-laws 𝓤 H A W tt .typed t _ is′ .0)) $
+        returns ! (look ! 13 refl) $ forget ! 3 refl $ forget ! 5 refl $ forget ! 7 refl $ forget ! 9 refl $ forget ! 11 refl $ forget ! 13 refl $
+        move ! (13 ∷ 14 ∷ []) $ free1 ! $ move ! (11 ∷ 12 ∷ []) $ free1 ! $ move ! (9 ∷ 10 ∷ []) $ free1 ! $ move ! (7 ∷ 8 ∷ []) $ free1 ! $
         move ! (5 ∷ 6 ∷ []) $ free1 ! $ move ! (3 ∷ 4 ∷ []) $ free1 ! $ free0 ! $
-        by ! (exits t u′ (subst (λ x. RuleByNumber (now x) n t) (e .0) e′)))))))))))
+        by ! (exits t u′ (subst (λ x. RuleByNumber (now x) n t) (e .0) e′))))))))))))
 
 fetch-meets : {M : Type 1} (𝓤 : URA M) (H : Heap 𝓤) (A : Atoms 𝓤) → Given 𝓤 H A → (mem : Memory → SProp 𝓤) (run : Routine → Fun 𝓤) (𝓣 : Tables 𝓤 H)
     → Triple 𝓤 (𝓣 .C #opened-at) (OpenedAt 𝓤 H A mem run) → Triple 𝓤 (𝓣 .C #rule-of) (RuleOf 𝓤 H A mem run)
@@ -157,11 +159,12 @@ fetch-meets : {M : Type 1} (𝓤 : URA M) (H : Heap 𝓤) (A : Atoms 𝓤) → G
 fetch-meets 𝓤 H A W mem run 𝓣 known-open known-rule =
     let c = fetch.clauses 𝓤 H A mem run in
     let f = WpFn 𝓤 H (𝓣 .C) (𝓣 .Λ) code.function in
-    walk-meets 𝓤 H A fetch.ended stayed W (bytes-go 𝓤 H A W, (number-goes 𝓤 H A W, (number-goes 𝓤 H A W, tt))) c f (WpFn-mono 𝓤 H (W .laws) 𝓣 code.function)
+    walk-meets 𝓤 H A fetch.ended stayed W (bytes-go 𝓤 H A W, (number-goes 𝓤 H A W, (number-goes 𝓤 H A W, (number-goes 𝓤 H A W, tt)))) c f (WpFn-mono 𝓤 H (W .laws) 𝓣 code.function)
     (walked 𝓤 H A fetch.ended stayed c f
-    (λ κs. (slice-vals, (uint-vals w64, (uint-vals w64, tt)))) (λ κs. (shr-slice-tells (named 0) (κs .0) u8, (uint-tells w64, (uint-tells w64, tt))))
+    (λ κs. (slice-vals, (uint-vals w64, (uint-vals w64, (uint-vals w64, tt)))))
+    (λ κs. (shr-slice-tells (named 0) (κs .0) u8, (uint-tells w64, (uint-tells w64, (uint-tells w64, tt)))))
     (λ κs qs bounds a g are. needs 𝓤 _ _
-    (λ begin. walk 𝓤 H A W mem run (κs .0) (qs .0) (a .0) (a .1 .0) (a .1 .1 .0) (are .1 .0 .1) (are .1 .1 .0 .1) begin
+    (λ begin. walk 𝓤 H A W mem run (κs .0) (qs .0) (a .0) (a .1 .0) (a .1 .1 .0) (a .1 .1 .1 .0) (are .1 .0 .1) (are .1 .1 .0 .1) (are .1 .1 .1 .0 .1) begin
     (𝓣 .C) (𝓣 .Λ) (fmOf 𝓤 H (W .laws) 𝓣) known-open known-rule (are .0))))
 
 pub fetch-spec : {M : Type 1} → stated.statement M

@@ -31,7 +31,7 @@ returns c =
     let names = c .before .before .before .before .before .before .before .put-names .ensures .0 in
     let byte = c .before .before .put2 .ensures in
     let (counted, held) = whole (and-then (and-then word names) byte) in
-    (counted, (held, λ x end e. same-line (set-says (a .sheet .now) x end e (a .set)) held))
+    (counted, (held, λ names e. same-line (set-says (a .sheet .now) names e (a .set)) held))
 
 pub set-line-spec : {M : Type 1} → statement M
 set-line-spec =

@@ -39,7 +39,7 @@ returns c =
     let names = c .before .before .before .before .before .before .before .put-names .ensures .0 in
     let byte = c .before .before .put2 .ensures in
     let (counted, held) = whole (and-then (and-then (and-then (and-then word guess) sets) names) byte) in
-    (counted, (held, λ x end e. same-line (view-says (a .sheet .now) x end e (a .guess) (a .sets) (a .known)) held))
+    (counted, (held, λ names e. same-line (view-says (a .sheet .now) names e (a .guess) (a .sets) (a .known)) held))
 
 pub view-line-spec : {M : Type 1} → statement M
 view-line-spec =

@@ -1,7 +1,8 @@
 -- `verdict::verdict_on` meets its contract. Assumes nothing.
+use mathlib.Core.Path.{_∙_}
 use native.Mathlib.Omega.{arith}
-use Rattle.guess.specs.Accepted.{few-opened, few-sets}
-use Rattle.verdict.proofs.Judging.{judged}
+use Rattle.guess.specs.Numbered.{few-of, few-sets}
+use Rattle.guess.specs.Settings.{verdict-by}
 use borrow.Author.Needs.{needs}
 use Rattle.verdict.proofs.verdict_on.Statement.{statement}
 use Rattle.verdict.proofs.verdict_on.Tie as tie
@@ -17,19 +18,17 @@ slice-aggregate-judge c = search needs
 
 judge-requires : tie.Need-judge-requires
 judge-requires c κs =
-    let a = c .before .before .before .before .before .before .before .args in
     let pre = c .before .before .before .before .before .before .before .pre in
-    let small = few-sets (a .s .now) (a .x) (pre .0) in
-    (search needs, c .before .before .before .reduct .ensures .1 .0, few-opened (a .s .now) (a .x) (pre .0), omega (arith, small, pre .1))
+    (search needs, c .before .before .before .reduct .ensures .1 .0, few-of (pre .0), omega (arith, few-sets (pre .0), pre .1))
 
 same-length : tie.Need-same-length
 same-length c = search needs
 
 returns : tie.Need-returns
 returns c =
-    let a = c .before .before .before .before .before .before .before .before .before .before .args in
+    let start = c .before .before .before .before .before .before .before .before .before .before in
     let reduct = c .before .before .before .before .before .before .reduct .ensures .1 .1 in
-    judged (a .s .now) (a .x) (c .before .before .before .before .before .before .before .before .before .before .pre .0) (a .guess) _ reduct (c .before .before .judge .ensures)
+    c .before .before .judge .ensures ∙ verdict-by (start .pre .0) (start .args .guess) reduct
 
 pub verdict-on-spec : {M : Type 1} → statement M
 verdict-on-spec =

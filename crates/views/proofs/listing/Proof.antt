@@ -24,7 +24,7 @@ each-view-requires : tie.Need-each-view-requires
 each-view-requires c κs =
     let w = c .before .before .before .before .before .list in
     let r = w .ensures .1 .1 .listing-written _ (ap listed (c .before .before .views .given .1)) in
-    (omega (arith, r .fits, w .kept .1 .0), (r .of, r .sheet-of, r .records))
+    (omega (arith, r .fits, w .kept .1 .0), (r .of, r .accepts, r .records))
 
 print-tally-requires : tie.Need-print-tally-requires
 print-tally-requires c κs = search needs

@@ -5,7 +5,7 @@ use mathlib.Core.Path.{_≡_, refl}
 use borrow.Author.Needs.{needs}
 use Rattle.sets.specs.Sets.{setOf}
 use Rattle.semantics.specs.Definitions.Guesses.{not-known, may-be}
-use Rattle.sheet.specs.declared.Contents.{Contents}
+use Rattle.guess.specs.declared.outline.Outline.{Outline}
 use Rattle.guess.specs.declared.negations.Assumptions.{Assumptions}
 use Rattle.guess.specs.Negations.{assumedBy}
 use Rattle.guess.proofs.Turns.{At, inGuess, at-first, at-next, low, at-most-one, unknown-next, maybe-next}
@@ -13,7 +13,7 @@ use Rattle.guess.proofs.negations.assumed.Statement.{statement}
 use Rattle.guess.proofs.negations.assumed.Tie as tie
 
 -- when all atoms are passed
-done : (x : Contents) (g a : ℕ) → a ≡ x .atoms → {u p : ℕ} → u ≡ setOf (inGuess x not-known g) a → p ≡ setOf (inGuess x may-be g) a
+done : (x : Outline) (g a : ℕ) → a ≡ x .atoms → {u p : ℕ} → u ≡ setOf (inGuess x not-known g) a → p ≡ setOf (inGuess x may-be g) a
     → _≡_ {A = Assumptions} (record { unknown = u; maybe = p }) (assumedBy x g)
 done x g a e d f = rw (d, f, e)
 

@@ -7,8 +7,7 @@ use mathlib.Core.Path.{_≡_, refl, sym, ap, _∙_}
 use native.Mathlib.Omega.{arith}
 use Prim.Native.Nat.{ℕ, _+_, _*_, _-_, _≤_, _<_}
 use Rattle.sets.specs.Lists.{getD-upTo}
-use Rattle.semantics.specs.Definitions.Sheet.{wordAt}
-use Rattle.semantics.specs.Fields.{ruleFrom}
+use Rattle.semantics.specs.Words.{maskIn, masksIn}
 use Rattle.guess.specs.declared.reduct.Acted.{Acted}
 use Rattle.guess.specs.declared.reduct.Acted.the-variants.{Join}
 use Rattle.guess.specs.Acted.{actedOn}
@@ -18,17 +17,16 @@ use Rattle.guess.proofs.reduct.reduce.Statement.{statement}
 use Rattle.guess.proofs.reduct.reduce.Tie as tie
 
 abbrev Inv-loop : tie.InvT-loop
-Inv-loop s place by out₀ n i₀ out i =
-    (length out ≡ length out₀) × (take (4 * n) out ≡ take (4 * n) out₀) × Joined (by .unknown) (by .maybe) (ruleFrom s place) out n i
+Inv-loop words j by out₀ n i₀ out i =
+    (length out ≡ length out₀) × (take (4 * n) out ≡ take (4 * n) out₀) × Joined (by .unknown) (by .maybe) (masksIn words j) out n i
 
 abbrev μ-loop : tie.MeasureT-loop
-μ-loop s place by out₀ n i₀ out i = 8 - i
+μ-loop words j by out₀ n i₀ out i = 8 - i
 
--- what is done to mask i of the rule, by the answer of `act` for the mask that was read
-acted-on : (s : List ℕ) (place u p i : ℕ) → i < 8 → {m : ℕ} → m ≡ wordAt s (place + 2 * i) → {r x : Acted} → r ≡ actedOn u p i m → r ≡ x
-    → actedOn u p i (getD (ruleFrom s place) i 0) ≡ x
-acted-on s place u p i h read answered told =
-    ap (actedOn u p i) (getD-upTo (λ j. wordAt s (place + 2 * j)) 0 8 i h ∙ sym read) ∙ sym answered ∙ told
+-- what is done to mask i of the rule, by the answer of `act`
+acted-on : (words : List ℕ) (j u p i : ℕ) → i < 8 → {r x : Acted} → r ≡ actedOn u p i (maskIn words j i) → r ≡ x
+    → actedOn u p i (getD (masksIn words j) i 0) ≡ x
+acted-on words j u p i h answered told = ap (actedOn u p i) (getD-upTo (maskIn words j) 0 8 i h) ∙ sym answered ∙ told
 
 clear-requires : tie.Need-clear-requires Inv-loop μ-loop
 clear-requires c κs = search needs
@@ -37,10 +35,19 @@ loop-holds : tie.Need-loop-holds Inv-loop μ-loop
 loop-holds c =
     let a = c .before .before .before .before .before .before .args in
     let cleared = c .before .before .clear in
-    (refl, refl, none-joined (a .by .unknown) (a .by .maybe) (ruleFrom (a .s .now) (a .place)) (cleared .last .0) (a .n) (cleared .ensures .1 .1))
+    (refl, refl, none-joined (a .by .unknown) (a .by .maybe) (masksIn (a .words .now) (a .j)) (cleared .last .0) (a .n) (cleared .ensures .1 .1))
 
-mask-of-requires : tie.Need-mask-of-requires Inv-loop μ-loop
-mask-of-requires c κs = search needs
+mul-act : tie.Need-mul-act Inv-loop μ-loop
+mul-act c = search needs
+
+add-act : tie.Need-add-act Inv-loop μ-loop
+add-act c = search needs
+
+mul-act-2 : tie.Need-mul-act-2 Inv-loop μ-loop
+mul-act-2 c = search needs
+
+shared-slice-read-act : tie.Need-shared-slice-read-act Inv-loop μ-loop
+shared-slice-read-act c = search needs
 
 act-requires : tie.Need-act-requires Inv-loop μ-loop
 act-requires c κs = search needs
@@ -60,10 +67,9 @@ returns c =
     let a = turn .before .before .before .before .before .before .before .before .args in
     let l = turn .before .loop in
     let cleared = turn .before .before .before .before .clear in
-    let rule = ruleFrom (a .s .now) (a .place) in
+    let rule = masksIn (a .words .now) (a .j) in
     let h = turn .loop-test .taken in
-    let mask = c .before .before .before .mask-of .ensures in
-    let e = acted-on (a .s .now) (a .place) (a .by .unknown) (a .by .maybe) (l .i) h mask (c .before .before .act .ensures) in
+    let e = acted-on (a .words .now) (a .j) (a .by .unknown) (a .by .maybe) (l .i) h (c .before .before .act .ensures) in
     let gone = some-deletes (a .by .unknown) (a .by .maybe) rule (l .i) h (e (c .enum-told .given .1)) in
     (l .inv .0 ∙ cleared .ensures .0, (l .inv .1 ∙ cleared .ensures .1 .0, (sym (ap not gone), λ z. absurd (true≢false (sym z)))))
 
@@ -73,12 +79,12 @@ module _ (c : tie.After-known-told Inv-loop μ-loop) where
       let a = c .before .before .before .before .before .before .before .before .before .before .before .before .before .args in
       let i = c .before .before .before .before .before .before .loop .i in
       let to = c .before .acted .given in
-      actedOn (a .by .unknown) (a .by .maybe) i (getD (ruleFrom (a .s .now) (a .place)) i 0) ≡ Join (to .0 .0) (to .0 .1 .0)
+      actedOn (a .by .unknown) (a .by .maybe) i (getD (masksIn (a .words .now) (a .j)) i 0) ≡ Join (to .0 .0) (to .0 .1 .0)
   joins =
       let turn = c .before .before .before .before .before in
       let a = turn .before .before .before .before .before .before .before .before .args in
       let i = turn .before .loop .i in
-      acted-on (a .s .now) (a .place) (a .by .unknown) (a .by .maybe) i (turn .loop-test .taken) (c .before .before .before .before .mask-of .ensures)
+      acted-on (a .words .now) (a .j) (a .by .unknown) (a .by .maybe) i (turn .loop-test .taken)
       (c .before .before .before .act .ensures) (c .before .acted .given .1)
 
   below : c .before .acted .given .0 .0 < 4
@@ -126,7 +132,7 @@ loop-again c =
     let to = c .before .before .acted .given .0 .0 in (
       simp length-set (l .inv .0),
       take-set-le (4 * a .n) (l .out) (4 * a .n + to) _ (omega arith) ∙ l .inv .1,
-      one-joined (a .by .unknown) (a .by .maybe) (ruleFrom (a .s .now) (a .place)) (l .out) (a .n) (l .i) (l .inv .2)
+      one-joined (a .by .unknown) (a .by .maybe) (masksIn (a .words .now) (a .j)) (l .out) (a .n) (l .i) (l .inv .2)
           (c .before .before .before .before .before .before .loop-test .taken) (room (c .before)) (joins (c .before)),
     )
 
@@ -138,7 +144,7 @@ returns-2 c =
     let a = c .before .before .before .before .before .before .before .before .args in
     let l = c .before .loop in
     let cleared = c .before .before .before .before .clear in
-    let masks = ruleFrom (a .s .now) (a .place) in
+    let masks = masksIn (a .words .now) (a .j) in
     let (stays, rule) = all-joined (a .by .unknown) (a .by .maybe) masks (l .out) (a .n) (l .i) (l .inv .2) (c .loop-test .left) in
     (l .inv .0 ∙ cleared .ensures .0, (l .inv .1 ∙ cleared .ensures .1 .0, (sym (ap not stays), λ _. rule)))
 
@@ -150,7 +156,10 @@ reduce-spec =
     μ-loop
     clear-requires
     loop-holds
-    mask-of-requires
+    mul-act
+    add-act
+    mul-act-2
+    shared-slice-read-act
     act-requires
     enum-known-acted
     enum-told

@@ -1,7 +1,7 @@
 -- `listing::outcomes::examine` meets its contract. Assumes nothing.
 use mathlib.Core.Path.{sym, _∙_}
 use native.Mathlib.Omega.{arith}
-use Rattle.guess.specs.Accepted.{few-opened, few-sets}
+use Rattle.guess.specs.Numbered.{few-of, few-sets}
 use Rattle.listing.proofs.Examined.{guess-below, ruled-as, judged-as, sets-fit}
 use borrow.Author.Needs.{needs}
 use Rattle.listing.proofs.outcomes.examine.Statement.{statement}
@@ -18,24 +18,21 @@ slice-aggregate-contradicted c = search needs
 
 contradicted-requires : tie.Need-contradicted-requires
 contradicted-requires c κs =
-    let a = c .before .before .before .before .before .before .args in
     let pre = c .before .before .before .before .before .before .pre in
-    (search needs, few-opened (a .s .now) (a .x) (pre .0), guess-below (a .s .now) (a .x) (pre .0) (pre .1))
+    (search needs, few-of (pre .0), guess-below (pre .0) (pre .1))
 
 returns : tie.Need-returns
 returns c =
-    let a = c .before .before .before .before .before .before .before .before .args in
-    ruled-as (a .s .now) (a .x) (c .before .before .before .before .before .before .before .before .pre .0) (a .guess) _ (c .before .before .before .before .reduct .ensures .1 .1) (sym (c .before .contradicted .ensures) ∙ c .if1 .taken)
+    let start = c .before .before .before .before .before .before .before .before in
+    ruled-as (start .pre .0) (start .args .guess) (c .before .before .before .before .reduct .ensures .1 .1) (sym (c .before .contradicted .ensures) ∙ c .if1 .taken)
 
 slice-aggregate-judge : tie.Need-slice-aggregate-judge
 slice-aggregate-judge c = search needs
 
 judge-requires : tie.Need-judge-requires
 judge-requires c κs =
-    let a = c .before .before .before .before .before .before .before .before .before .before .args in
     let pre = c .before .before .before .before .before .before .before .before .before .before .pre in
-    let small = few-sets (a .s .now) (a .x) (pre .0) in
-    (search needs, c .before .before .before .before .before .before .reduct .ensures .1 .0, few-opened (a .s .now) (a .x) (pre .0), omega (arith, small, pre .2))
+    (search needs, c .before .before .before .before .before .before .reduct .ensures .1 .0, few-of (pre .0), omega (arith, few-sets (pre .0), pre .2))
 
 enum-told : tie.Need-enum-told
 enum-told c = search needs
@@ -48,36 +45,36 @@ enum-known-known c = search needs
 
 cast-t21 : tie.Need-cast-t21
 cast-t21 c =
-    let a = c .before .before .before .before .before .before .before .before .before .before .before .before .before .before .before .before .args in
-    let few = sets-fit (a .x) (a .guess) _ (c .before .before .before .before .before .judge .ensures) (c .before .known .given .1) in
-    omega (arith, few, few-sets (a .s .now) (a .x) (c .before .before .before .before .before .before .before .before .before .before .before .before .before .before .before .before .pre .0))
+    let start = c .before .before .before .before .before .before .before .before .before .before .before .before .before .before .before .before in
+    let few = sets-fit (start .args .x) (start .args .guess) _ (c .before .before .before .before .before .judge .ensures) (c .before .known .given .1) in
+    omega (arith, few, few-sets (start .pre .0))
 
 same-length : tie.Need-same-length
 same-length c = search needs
 
 returns-2 : tie.Need-returns-2
 returns-2 c =
-    let a = c .before .before .before .before .before .before .before .before .before .before .before .before .before .before .before .args in
+    let start = c .before .before .before .before .before .before .before .before .before .before .before .before .before .before .before in
     let free = sym (c .before .before .before .before .before .before .before .before .contradicted .ensures) ∙ c .before .before .before .before .before .before .before .if1 .left in
-    judged-as (a .s .now) (a .x) (c .before .before .before .before .before .before .before .before .before .before .before .before .before .before .before .pre .0) (a .guess) _ (c .before .before .before .before .before .before .before .before .before .before .before .reduct .ensures .1 .1) free _ _ (c .before .before .before .before .judge .ensures) (c .enum-told .given .1)
+    judged-as (start .pre .0) (start .args .guess) (c .before .before .before .before .before .before .before .before .before .before .before .reduct .ensures .1 .1) free _ _ (c .before .before .before .before .judge .ensures) (c .enum-told .given .1)
 
 same-length-2 : tie.Need-same-length-2
 same-length-2 c = search needs
 
 returns-3 : tie.Need-returns-3
 returns-3 c =
-    let a = c .before .before .before .before .before .before .before .before .before .before .before .before .before .before .before .args in
+    let start = c .before .before .before .before .before .before .before .before .before .before .before .before .before .before .before in
     let free = sym (c .before .before .before .before .before .before .before .before .contradicted .ensures) ∙ c .before .before .before .before .before .before .before .if1 .left in
-    judged-as (a .s .now) (a .x) (c .before .before .before .before .before .before .before .before .before .before .before .before .before .before .before .pre .0) (a .guess) _ (c .before .before .before .before .before .before .before .before .before .before .before .reduct .ensures .1 .1) free _ _ (c .before .before .before .before .judge .ensures) (c .enum-told2 .given .1)
+    judged-as (start .pre .0) (start .args .guess) (c .before .before .before .before .before .before .before .before .before .before .before .reduct .ensures .1 .1) free _ _ (c .before .before .before .before .judge .ensures) (c .enum-told2 .given .1)
 
 same-length-3 : tie.Need-same-length-3
 same-length-3 c = search needs
 
 returns-4 : tie.Need-returns-4
 returns-4 c =
-    let a = c .before .before .before .before .before .before .before .before .before .before .before .before .before .before .before .before .args in
+    let start = c .before .before .before .before .before .before .before .before .before .before .before .before .before .before .before .before in
     let free = sym (c .before .before .before .before .before .before .before .before .before .contradicted .ensures) ∙ c .before .before .before .before .before .before .before .before .if1 .left in
-    judged-as (a .s .now) (a .x) (c .before .before .before .before .before .before .before .before .before .before .before .before .before .before .before .before .pre .0) (a .guess) _ (c .before .before .before .before .before .before .before .before .before .before .before .before .reduct .ensures .1 .1) free _ _ (c .before .before .before .before .before .judge .ensures) (c .before .known .given .1)
+    judged-as (start .pre .0) (start .args .guess) (c .before .before .before .before .before .before .before .before .before .before .before .before .reduct .ensures .1 .1) free _ _ (c .before .before .before .before .before .judge .ensures) (c .before .known .given .1)
 
 pub examine-spec : {M : Type 1} → statement M
 examine-spec =

@@ -1,4 +1,4 @@
--- `sheet::opened_sheet::opened_at` meets its contract: a walk of its MIR. The slice and the number become the fields of the result.
+-- `sheet::opened_sheet::opened_at` meets its contract: a walk of its MIR. The slice and the numbers become the fields of the result.
 -- What a slice owns is had twice, for the parameter at exit and for the result. Assumes nothing.
 use mathlib.Core.Path.{refl}
 use Prim.Native.Nat.{ℕ, _<_, _^_}
@@ -40,24 +40,24 @@ use Rattle.sheet.proofs.opened_sheet.opened_at.Statement as stated
 use Rattle.sheet.proofs.opened_sheet.opened_at.Code as code
 
 abbrev stayed : Stays (opened-at.ended .signature .params) (opened-at.ended .kept)
-stayed = (bytes-stay, (number-stays, tt))
+stayed = (bytes-stay, (number-stays, (number-stays, tt)))
 
 module _ {M : Type 1} (𝓤 : URA M) (H : Heap 𝓤) (A : Atoms 𝓤) (W : Given 𝓤 H A) (mem : Memory → SProp 𝓤) (run : Routine → Fun 𝓤)
-    (κ : Lft) (q : Share) (s : RefT (List ℕ)) (place : ℕ) (fits : place < 2 ^ 64) where
+    (κ : Lft) (q : Share) (s : RefT (List ℕ)) (place many : ℕ) (place-fits : place < 2 ^ 64) (many-fits : many < 2 ^ 64) where
   abbrev clauses : Clauses 𝓤 opened-at.ended
   clauses = opened-at.clauses 𝓤 H A mem run
 
   abbrev made : OpenedSheet
-  made = record { bytes = s; «rules_at» = place }
+  made = record { bytes = s; «rules_at» = place; rules = many }
 
   abbrev passed : Vals opened-at.signature (κ, tt)
-  passed = (ofBytes s ∷ [], (ofNumber place ∷ [], tt))
+  passed = (ofBytes s ∷ [], (ofNumber place ∷ [], (ofNumber many ∷ [], tt)))
 
   abbrev bound : walkOf 𝓤 H A opened-at.ended stayed clauses .Ghost
-  bound = (((κ, tt), (q, tt), tt, (s, (place, tt)), passed), tt)
+  bound = (((κ, tt), (q, tt), tt, (s, (place, (many, tt))), passed), tt)
 
   abbrev Entry : SProp 𝓤
-  Entry = onEntry 𝓤 H A opened-at.signature (κ, tt) (q, tt) (s, (place, tt)) passed
+  Entry = onEntry 𝓤 H A opened-at.signature (κ, tt) (q, tt) (s, (place, (many, tt))) passed
 
   abbrev Post : Val → SProp 𝓤
   Post = walkOf 𝓤 H A opened-at.ended stayed clauses .post bound
@@ -67,35 +67,37 @@ module _ {M : Type 1} (𝓤 : URA M) (H : Heap 𝓤) (A : Atoms 𝓤) (W : Given
 
   exits : ent 𝓤 Entry (Post (T′.lowered made))
   exits =
-      qed W ((‵ (flft κ q) ⊛ ‵ ftrue) ∷ ‵ (owns (Bytes κ ∷ usize ∷ []) (s, (place, tt)) passed) ∷ []) ∵
-      suffices ! _ (ends-at 𝓤 H A opened-at.ended stayed clauses W bound (T′.lowered made) made (tt, (tt, tt)) (tt, (tt, tt))) $ says ! (refl, refl) $
+      qed W ((‵ (flft κ q) ⊛ ‵ ftrue) ∷ ‵ (owns (Bytes κ ∷ usize ∷ usize ∷ []) (s, (place, (many, tt))) passed) ∷ []) ∵
+      suffices ! _ (ends-at 𝓤 H A opened-at.ended stayed clauses W bound (T′.lowered made) made (tt, (tt, (tt, tt))) (tt, (tt, (tt, tt)))) $ says ! (refl, refl, refl) $
       frame ! $ fsplit ! $ use1 W (‵ Own ⊛ ‵ Own) (shr-slice-copy 𝓤 H A W (named 0) κ u8 .twice s (ofBytes s ∷ [])) $ split ! $
       move ! (0 ∷ 2 ∷ []) $ fjoin ! $ frame ! $
       -- [what the slice owns]
-      nothing ! $ number ! place fits $ fjoin ! $ move ! (1 ∷ 0 ∷ []) $ fjoin ! $
-      by ! (own-shut 𝓤 H A W (heldType (κ, tt)) (heldLaws (κ, tt)) (s, (place, tt)))
+      nothing ! $ number ! many many-fits $ fjoin ! $ number ! place place-fits $ fjoin ! $ move ! (1 ∷ 0 ∷ []) $ fjoin ! $
+      by ! (own-shut 𝓤 H A W (heldType (κ, tt)) (heldLaws (κ, tt)) (s, (place, (many, tt))))
 
   module _ (C : Calls 𝓤 H) (Λ : Loops 𝓤 H) where
-    walk : Is (Bytes κ) s (ofBytes s ∷ []) → ent 𝓤 Entry (WpFn 𝓤 H C Λ code.function (ofBytes s ∷ ofNumber place ∷ []) Post)
+    walk : Is (Bytes κ) s (ofBytes s ∷ []) → ent 𝓤 Entry (WpFn 𝓤 H C Λ code.function (ofBytes s ∷ ofNumber place ∷ ofNumber many ∷ []) Post)
     walk p =
         let typed = shr-slice-lawful 𝓤 H A W (named 0) κ u8 .typed s (ofBytes s ∷ []) p .0 in
-        qed W (raw Entry ∷ []) ∵ enter ! C Λ code.function (ofBytes s ∷ ofNumber place ∷ []) _ $
-        alloc1 ! (λ l₀. alloc1 ! (λ l₁. alloc1 ! (λ l₂. alloc0 ! $ params1 ! $
-        pass1 ! (init ! 2 refl typed) $ pass1 ! (init ! 0 refl (tt, record { fits = fits })) $ pass0 ! $
-        assigns ! (agg ! (and-then ! (value ! 2 refl) (and-then ! (value ! 0 refl) (no-more !)))) (from ! (stop !))
-        (init ! 4 refl (tt, (typed .1, (record { fits = fits }, tt)))) $
-        returns ! (look ! 4 refl) $ forget ! 0 refl $ forget ! 2 refl $ forget ! 4 refl $
-        move ! (4 ∷ 5 ∷ []) $ free1 ! $ move ! (2 ∷ 3 ∷ []) $ free1 ! $ free1 ! $ free0 ! $ by ! exits)))
+        qed W (raw Entry ∷ []) ∵ enter ! C Λ code.function (ofBytes s ∷ ofNumber place ∷ ofNumber many ∷ []) _ $
+        alloc1 ! (λ l₀. alloc1 ! (λ l₁. alloc1 ! (λ l₂. alloc1 ! (λ l₃. alloc0 ! $ params1 ! $
+        pass1 ! (init ! 4 refl typed) $ pass1 ! (init ! 2 refl (tt, record { fits = place-fits })) $
+        pass1 ! (init ! 0 refl (tt, record { fits = many-fits })) $ pass0 ! $
+        assigns ! (agg ! (and-then ! (value ! 4 refl) (and-then ! (value ! 2 refl) (and-then ! (value ! 0 refl) (no-more !))))) (from ! (stop !))
+        (init ! 6 refl (tt, (typed .1, (record { fits = place-fits }, (record { fits = many-fits }, tt))))) $
+        returns ! (look ! 6 refl) $ forget ! 0 refl $ forget ! 2 refl $ forget ! 4 refl $ forget ! 6 refl $
+        move ! (6 ∷ 7 ∷ []) $ free1 ! $ move ! (4 ∷ 5 ∷ []) $ free1 ! $ move ! (2 ∷ 3 ∷ []) $ free1 ! $ free1 ! $ free0 ! $ by ! exits))))
 
 opened-at-meets : {M : Type 1} (𝓤 : URA M) (H : Heap 𝓤) (A : Atoms 𝓤) → Given 𝓤 H A → (mem : Memory → SProp 𝓤) (run : Routine → Fun 𝓤) (𝓣 : Tables 𝓤 H)
     → Meets 𝓤 H A opened-at.signature (WpFn 𝓤 H (𝓣 .C) (𝓣 .Λ) code.function) (opened-at.spec 𝓤 H A mem run)
 opened-at-meets 𝓤 H A W mem run 𝓣 =
     let c = opened-at.clauses 𝓤 H A mem run in
     let f = WpFn 𝓤 H (𝓣 .C) (𝓣 .Λ) code.function in
-    walk-meets 𝓤 H A opened-at.ended stayed W (bytes-go 𝓤 H A W, (number-goes 𝓤 H A W, tt)) c f (WpFn-mono 𝓤 H (W .laws) 𝓣 code.function)
-    (walked 𝓤 H A opened-at.ended stayed c f (λ κs. (slice-vals, (uint-vals w64, tt))) (λ κs. (shr-slice-tells (named 0) (κs .0) u8, (uint-tells w64, tt)))
+    walk-meets 𝓤 H A opened-at.ended stayed W (bytes-go 𝓤 H A W, (number-goes 𝓤 H A W, (number-goes 𝓤 H A W, tt))) c f (WpFn-mono 𝓤 H (W .laws) 𝓣 code.function)
+    (walked 𝓤 H A opened-at.ended stayed c f
+    (λ κs. (slice-vals, (uint-vals w64, (uint-vals w64, tt)))) (λ κs. (shr-slice-tells (named 0) (κs .0) u8, (uint-tells w64, (uint-tells w64, tt))))
     (λ κs qs bounds a g are. needs 𝓤 _ _
-    (λ _. walk 𝓤 H A W mem run (κs .0) (qs .0) (a .0) (a .1 .0) (are .1 .0 .1) (𝓣 .C) (𝓣 .Λ) (are .0))))
+    (λ _. walk 𝓤 H A W mem run (κs .0) (qs .0) (a .0) (a .1 .0) (a .1 .1 .0) (are .1 .0 .1) (are .1 .1 .0 .1) (𝓣 .C) (𝓣 .Λ) (are .0))))
 
 pub opened-at-spec : {M : Type 1} → stated.statement M
 unfolding code.routine tablesOf

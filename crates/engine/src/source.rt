@@ -1,0 +1,67 @@
+// The source of a call: the rules of a program with K and M in words of the call's own, eight a rule, and their outline; or the refusal that
+// comes before.
+use guess::outline::Outline;
+use sets::power;
+use sheet::Opened;
+use sheet::load;
+use sheet::open;
+ghost use mathlib.Core.Path.{_≡_};
+ghost use Prim.Native.Nat.{_*_, _≤_};
+ghost use lib.ListN.{length};
+ghost use Rattle.semantics.specs.Words.{programRoom};
+ghost use Rattle.semantics.specs.Definitions.Check.{ofSheet};
+ghost use Rattle.semantics.specs.Definitions.Calls.{forGuess, forAtom};
+ghost use Rattle.engine.specs.Sources.{Reads, Within, ReadsOn};
+
+pub enum Source {
+    Accepted(Outline),
+    Refused(u8, usize),
+}
+
+// Reads a sheet: refusals 1 to 7. After this no byte of it is looked at.
+pub fn of_sheet(sheet: &[u8], words: &mut [u16]) -> Source
+    requires { ⌜ 8 * programRoom ≤ length (now words) ⌝ }
+    ensures { λ r. ⌜ length (now (words .exit)) ≡ length (now (words .entry)) ⌝ }
+    ensures { λ r. ⌜ Reads (ofSheet (now (sheet .entry))) r (now (words .exit)) ⌝ }
+{
+    match open(sheet) {
+        Opened::Accepted(x) => {
+            load(sheet, x.rules_at, x.rules, &mut words[..]);
+            Source::Accepted(Outline {
+                atoms: x.atoms,
+                rules: x.rules,
+                negations: x.negations,
+                k_atoms: x.k_atoms,
+                m_atoms: x.m_atoms,
+            })
+        }
+        Opened::Refused(number, place) => Source::Refused(number, place),
+    }
+}
+
+// One check more, of a guess: refusal 8. A refusal stays as it is.
+pub fn for_guess(source: Source, guess: u32) -> Source
+    requires { ⌜ Within source ⌝ }
+    ensures { λ r. ⌜ ReadsOn (λ from. forGuess from guess) source r ⌝ }
+{
+    let Source::Accepted(x) = source else {
+        return source;
+    };
+    if power(x.negations as u16) as u32 <= guess {
+        return Source::Refused(8, 0);
+    }
+    source
+}
+
+// One check more, of an atom: refusal 10. A refusal stays as it is.
+pub fn for_atom(source: Source, atom: u32) -> Source
+    ensures { λ r. ⌜ ReadsOn (λ from. forAtom from atom) source r ⌝ }
+{
+    let Source::Accepted(x) = source else {
+        return source;
+    };
+    if x.atoms <= atom as usize {
+        return Source::Refused(10, 0);
+    }
+    source
+}

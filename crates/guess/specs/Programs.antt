@@ -1,0 +1,27 @@
+-- A program with K and M as the code holds it, its rules in words and its outline: the setting that these stand for. Assumes nothing.
+use Prim.Native.Nat.{ℕ, _*_, _≤_}
+use mathlib.Core.Path.{_≡_}
+use mathlib.Core.List.{List, map}
+use lib.ListN.{length}
+use Rattle.sets.specs.Sets.{AllBelow}
+use Rattle.semantics.specs.Definitions.Sheet.{ruleOfMasks, mostAtoms}
+use Rattle.semantics.specs.Definitions.Setting.{Setting, settingOf, k}
+use Rattle.semantics.specs.Definitions.Check.{mostNegations}
+use Rattle.semantics.specs.Fields.{kAtoms, mAtoms}
+use Rattle.semantics.specs.Words.{programRoom, rulesIn}
+use Rattle.guess.specs.declared.outline.Outline.{Outline}
+
+-- what the rest of document 01 is said of, for the rules in the words
+abbrev pub settingIn : Outline → (words : List ℕ) → Setting
+settingIn x words = settingOf (x .atoms) (map ruleOfMasks (rulesIn words (x .rules)))
+
+-- x is the outline of the rules in the words, and these are within the limits
+pub record Outlines (x : Outline) (words : List ℕ) : Type 0 where
+  pub few-atoms : x .atoms ≤ mostAtoms
+  pub few-rules : x .rules ≤ programRoom
+  pub stand : 8 * x .rules ≤ length words
+  pub below : AllBelow (x .atoms) (rulesIn words (x .rules))
+  pub k-atoms : x .«k_atoms» ≡ kAtoms (rulesIn words (x .rules))
+  pub m-atoms : x .«m_atoms» ≡ mAtoms (rulesIn words (x .rules))
+  pub counted : x .negations ≡ k (settingIn x words)
+  pub few-negations : x .negations ≤ mostNegations
