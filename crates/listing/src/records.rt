@@ -66,11 +66,11 @@ pub fn covered_by(records: &[u16], n: usize, guess: u16) -> bool
     let mut j = 0;
     while j < n {
         let other = records[4 * j];
+        if subset(guess, other) {
+            return level < size(other);
+        }
         if size(other) <= level {
             return false;
-        }
-        if subset(guess, other) {
-            return true;
         }
         j += 1;
     }
