@@ -1,5 +1,5 @@
 -- What document 01 means. Definitions: what a reader must believe, in the document's order. Theorems: the papers' reading of them.
--- Walk: the listing as it is run; Fields: where a reader finds the fields of a sheet; Words: a program in words. The definitions do
+-- Walk: the listing as it is run; Fields: where a reader finds the fields of a sheet; Words: programs in words. The definitions do
 -- not rest on these three.
 -- Examples: sheets with known lists, computed.
 pub mod Definitions
