@@ -1,8 +1,9 @@
--- Sheets whose lists are known, limit cases of the reading, verdicts and belief sets of guesses, what the listing, the desk call and the query
--- return, and what `views` prints, computed from the bytes.
+-- Sheets whose lists are known, limit cases of the reading, the table of the reduct, verdicts and belief sets of guesses, what the listing, the
+-- desk call and the query return, and what `views` prints, computed from the bytes.
 pub mod Sheets
 pub mod Own
 pub mod Limits
+pub mod Reducts
 pub mod Guesses
 pub mod Listings
 pub mod Queries

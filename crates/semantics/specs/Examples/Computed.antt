@@ -25,6 +25,7 @@ use Rattle.semantics.specs.Walk.{walk}
 use Rattle.semantics.specs.Examples.Sheets.{Listed, zeros, ten, kiln, sheet-6}
 use Rattle.semantics.specs.Examples.Own.{own}
 use Rattle.semantics.specs.Examples.Limits.{longest, answers}
+use Rattle.semantics.specs.Examples.Reducts.{reducts}
 use Rattle.semantics.specs.Examples.Guesses.{verdicts, sets}
 use Rattle.semantics.specs.Examples.Listings.{listings, deskCalls}
 use Rattle.semantics.specs.Examples.Queries.{queries}
@@ -47,6 +48,8 @@ pub record Computed : Type 0 where
   pub walks : map (λ e. answer walked (ofSheet (e .bytes))) sheets ≡ map (λ e. accepted (e .views, e .tally)) sheets
   -- "pruning equal sizes, which loses a view in 6"
   pub two-views : answer (λ s. map (λ v. v .guess) (listing s)) (ofSheet (sheet-6 .bytes)) ≡ accepted (1 ∷ 2 ∷ [])
+  -- the table of the reduct, cell by cell
+  pub reducts-are : map (λ p. answer (λ s. s .program (p .1)) (ofSheet (p .0))) reducts ≡ map (λ p. accepted (p .2)) reducts
   -- what the calls that take a guess return; the other three errors are among these guesses
   pub verdicts-returned : map (λ p. verdictCall (ofSheet (p .0)) (p .1)) verdicts ≡ map (λ p. p .2) verdicts
   pub sets-returned : map (λ p. beliefSetsCall (ofSheet (p .0)) (p .1) (p .2)) sets ≡ map (λ p. p .3) sets
@@ -70,6 +73,7 @@ computed = record {
   lists = refl;
   walks = refl;
   two-views = refl;
+  reducts-are = refl;
   verdicts-returned = refl;
   sets-returned = refl;
   listings-returned = refl;

@@ -1,0 +1,48 @@
+// The call on the cells lent, and its line.
+use super::answers::answer;
+use super::output::each;
+use super::output::flush;
+use super::output::mark;
+ghost use Prim.Native.Nat.{_≤_};
+ghost use lib.ListN.{length};
+
+// (x + 1) mod 65,536.
+fn next(x: u16) -> u16 {
+    if x == 65535 {
+        return 0;
+    }
+    x + 1
+}
+
+// Cell i holds (first + i) mod 65,536.
+fn fill(cells: &mut [u16], first: u16) {
+    let mut x = first;
+    for i in 0..cells.len() {
+        cells[i] = x;
+        x = next(x);
+    }
+}
+
+fn line(call: u8, sheet: &[u8], argument: u32, cells: &mut [u16], out: &mut [u8])
+    requires { ⌜ 1024 ≤ length (now out) ⌝ }
+{
+    let a = text::put_decimal(call as usize, 0, out);
+    let b = answer(call, sheet, argument, cells, a, out);
+    let c = mark(b" :", b, out);
+    let d = each(cells, c, out);
+    let e = mark(b"\n", d, out);
+    flush(e, out);
+}
+
+fn lend(call: u8, sheet: &[u8], argument: u32, cells: &mut [u16], first: u16) {
+    let mut out = io::large_buffer();
+    fill(cells, first);
+    line(call, sheet, argument, cells, &mut out);
+}
+
+pub fn respond(call: u8, sheet: &[u8], argument: u32, count: usize, first: u16)
+    requires { ⌜ count ≤ 33000 ⌝ }
+{
+    let mut cells = [0u16; 33000];
+    lend(call, sheet, argument, &mut cells[0..count], first);
+}

@@ -1,0 +1,45 @@
+//! The proved listing and the second solver on named sheets: the time of each, their ratio, and that both give the same
+//! listing. A time is the best of at least three runs; where the first takes over a second, it is the only one.
+
+use std::time::{Duration, Instant};
+use trial::large::named;
+use trial::solver::calls::open;
+
+/// What a call gives, and its best time.
+fn timed<T>(call: impl Fn() -> T) -> (T, Duration) {
+    let mut times = Vec::new();
+    loop {
+        let start = Instant::now();
+        let given = call();
+        times.push(start.elapsed());
+        let spent: Duration = times.iter().sum();
+        let enough = times.len() >= 3 && spent > Duration::from_millis(100);
+        if enough || times[0] > Duration::from_secs(1) {
+            return (given, times.into_iter().min().expect("a run"));
+        }
+    }
+}
+
+fn milliseconds(time: Duration) -> f64 {
+    time.as_secs_f64() * 1_000.0
+}
+
+fn main() {
+    println!(
+        "{:<22}{:>6}{:>7}{:>4}{:>7}{:>13}{:>13}{:>9}",
+        "sheet", "atoms", "rules", "k", "views", "proved ms", "second ms", "ratio"
+    );
+    for (name, sheet) in named() {
+        let (ours, proved) = timed(|| budkarv::list(&sheet).expect("accepted"));
+        let (theirs, second) = timed(|| open(&sheet).expect("accepted").listing().clone());
+        let words: Vec<[u16; 4]> =
+            ours.views.iter().map(|view| [view.guess, view.known.bits(), view.possible.bits(), view.sets]).collect();
+        let expected: Vec<[u16; 4]> = theirs.views.iter().map(|view| view.words()).collect();
+        assert_eq!(words, expected, "{name}: the two list different world views");
+        let [atoms, rules, negations] = open(&sheet).expect("accepted").check();
+        let (proved, second) = (milliseconds(proved), milliseconds(second));
+        let (views, ratio) = (words.len(), proved / second);
+        println!("{name:<22}{atoms:>6}{rules:>7}{negations:>4}{views:>7}{proved:>13.3}{second:>13.3}{ratio:>9.4}");
+    }
+    println!("on every sheet both list the same world views; ratio: proved / second");
+}

@@ -1,0 +1,95 @@
+//! Damaged sheets: bytes changed, cut off or added, counts and masks too large, names made equal.
+
+use crate::random::Random;
+use crate::sheets::random_names;
+use crate::write::{sheet, K, M};
+
+/// A sheet with one kind of damage; some of them are still accepted.
+pub fn damaged(random: &mut Random, sheet: &[u8]) -> Vec<u8> {
+    let mut bytes = sheet.to_vec();
+    match random.below(7) {
+        0 => bytes.truncate(random.below(bytes.len() + 1)),
+        1 => extend(random, &mut bytes),
+        2 => change(random, &mut bytes),
+        3 => bytes[0] = random.pick(&[bytes[0] + 1, bytes[0].wrapping_sub(1), 15, 16, 255]),
+        4 => rule_byte(random, &mut bytes),
+        5 => names(random, &mut bytes),
+        _ => (0..random.between(2, 5)).for_each(|_| change(random, &mut bytes)),
+    }
+    bytes
+}
+
+fn extend(random: &mut Random, bytes: &mut Vec<u8>) {
+    for _ in 0..random.pick(&[1, 1, 2, 15, 16, 17, 40]) {
+        bytes.push(random.word() as u8);
+    }
+}
+
+fn change(random: &mut Random, bytes: &mut [u8]) {
+    let place = random.below(bytes.len());
+    let old = bytes[place];
+    bytes[place] = match random.below(3) {
+        0 => random.word() as u8,
+        1 => random.pick(&[old.wrapping_add(1), old.wrapping_sub(1)]),
+        _ => old ^ 1 << random.below(8),
+    };
+}
+
+/// Where so many names end in a sheet that begins with whole names.
+fn after_names(bytes: &[u8], count: u8) -> usize {
+    (0..count).fold(1, |at, _| at + 1 + usize::from(bytes[at]))
+}
+
+/// Where the rule count stands in such a sheet.
+fn rule_count_at(bytes: &[u8]) -> usize {
+    after_names(bytes, bytes[0])
+}
+
+/// A change of the rule count or of a byte of a mask.
+fn rule_byte(random: &mut Random, bytes: &mut [u8]) {
+    let count = rule_count_at(bytes);
+    let old = bytes[count];
+    if random.chance(30) || bytes.len() == count + 1 {
+        bytes[count] = random.pick(&[old + 1, old.wrapping_sub(1), 64, 65, 255]);
+    } else {
+        let place = random.between(count + 1, bytes.len() - 1);
+        bytes[place] |= 1 << random.below(8);
+    }
+}
+
+/// A name repeated, a bad length or a bad byte.
+fn names(random: &mut Random, bytes: &mut Vec<u8>) {
+    if bytes[0] == 0 {
+        return extend(random, bytes);
+    }
+    let chosen = random.below(bytes[0].into()) as u8;
+    let at = after_names(bytes, chosen);
+    let end = after_names(bytes, chosen + 1);
+    match random.below(3) {
+        0 => bytes[at] = random.pick(&[0, 13, 255]),
+        1 => bytes[random.between(at + 1, end - 1)] = random.pick(b"`{/:A_0\x5e\x60\x00\xff"),
+        _ => {
+            let name = bytes[at..end].to_vec();
+            let later = random.pick(&[end, rule_count_at(bytes)]);
+            bytes.splice(later..later, name);
+            bytes[0] += 1;
+        }
+    }
+}
+
+/// A sheet of more than twelve negations: refusal 7 (and no other).
+pub fn too_many_negations(random: &mut Random) -> Vec<u8> {
+    let atoms = random.between(7, 15);
+    let mut rules = vec![[0; 8]; random.between(1, 6)];
+    let mut left = random.between(13, 2 * atoms);
+    for atom in 0..atoms {
+        for pair in [K, M] {
+            if left > 0 {
+                let rule = random.below(rules.len());
+                rules[rule][pair + random.below(2)] |= 1 << atom;
+                left -= 1;
+            }
+        }
+    }
+    sheet(&random_names(random, atoms, 12), &rules)
+}

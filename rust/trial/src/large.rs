@@ -1,0 +1,93 @@
+//! Named sheets, most of them at the limits: for the benchmark and for the comparison of large listings.
+
+use crate::cases::sheets::{one_known, pairs};
+use crate::known::kiln;
+use crate::random::{Random, SEED};
+use crate::solver::sheet::Rule;
+use crate::write::*;
+
+/// The sheets with their names.
+pub fn named() -> Vec<(&'static str, Vec<u8>)> {
+    vec![
+        ("kiln", kiln()),
+        ("nearly all ruled", lettered(15, &all_ruled())),
+        ("all but one covered", lettered(15, &each(12, |a| rule(&[(HEAD, a), (K, a)])))),
+        ("64 views, pairs", pairs()),
+        ("81 views, triples", one_known(&["abc", "def", "ghi", "jkl"])),
+        ("single heads", lettered(15, &random_rules(1, 1, 63, 0x3F))),
+        ("disjunctions of two", lettered(15, &random_rules(1, 2, 63, 0x3F))),
+        ("disjunctions of three", lettered(15, &random_rules(3, 3, 63, 0xF))),
+        ("free choices", lettered(15, &free_choices())),
+        ("odd cycle of 9", lettered(9, &odd_cycle(9, 0x3F))),
+        ("odd cycle of 15", lettered(15, &odd_cycle(15, 0x3F))),
+        ("choices, odd cycle", lettered(15, &choices_and_cycle())),
+        ("three colours", lettered(15, &colours())),
+        ("possible or not", lettered(15, &each(12, |a| rule(&[(HEAD, a), (NOT_M, a << 3)])))),
+    ]
+}
+
+/// One rule for each of the first atoms.
+fn each(count: usize, rule: impl Fn(u16) -> Rule) -> Vec<Rule> {
+    (0..count).map(|atom| rule(1 << atom)).collect()
+}
+
+/// Twelve facts, each to be known, and three choices: every guess but one is contradicted.
+fn all_ruled() -> Vec<Rule> {
+    let mut rules = each(12, |a| rule(&[(HEAD, a)]));
+    rules.extend(each(12, |a| rule(&[(NOT_K, a)])));
+    rules.extend(choices(12..15));
+    rules
+}
+
+/// Random rules with so many head atoms, two body literals and a subjective one on the atoms of `asked`.
+fn random_rules(stream: u64, heads: usize, count: usize, asked: u16) -> Vec<Rule> {
+    let mut random = Random::new(SEED, stream);
+    let mut rules = vec![names_negations(asked, asked)];
+    for _ in 0..count {
+        let mut rule = [0; 8];
+        for _ in 0..heads {
+            rule[HEAD] |= 1 << random.below(15);
+        }
+        rule[random.pick(&[PLAIN, PLAIN, NOT])] |= 1 << random.below(15);
+        rule[random.pick(&[PLAIN, NOT])] |= 1 << random.below(15);
+        rule[random.pick(&[K, NOT_K, M, NOT_M])] |= 1 << random.below(15) & asked;
+        rules.push(rule);
+    }
+    rules
+}
+
+/// Ten choices; three atoms are known when a choice is, and two are possible when one is.
+fn free_choices() -> Vec<Rule> {
+    let mut rules = choices(0..10);
+    rules.extend((0..3).map(|atom| rule(&[(HEAD, 1 << (10 + atom)), (K, 1 << atom)])));
+    rules.extend((0..2).map(|atom| rule(&[(HEAD, 1 << (13 + atom)), (M, 1 << atom)])));
+    rules
+}
+
+/// a <- not b; b <- not c; and so on round: no stable set when the number of atoms is odd.
+fn odd_cycle(atoms: usize, asked: u16) -> Vec<Rule> {
+    let mut rules: Vec<Rule> =
+        (0..atoms).map(|atom| rule(&[(HEAD, 1 << atom), (NOT, 1 << ((atom + 1) % atoms))])).collect();
+    rules.push(names_negations(asked, asked));
+    rules
+}
+
+/// An odd cycle of three atoms beside twelve choices.
+fn choices_and_cycle() -> Vec<Rule> {
+    let mut rules = odd_cycle(3, 0b111);
+    rules.extend(choices(3..15));
+    rules
+}
+
+/// Five nodes in a ring, each of three colours, no neighbours alike; the first is known red, others are asked for.
+fn colours() -> Vec<Rule> {
+    let colour = |node: usize, colour: usize| 1 << (3 * (node % 5) + colour);
+    let mut rules: Vec<Rule> = (0..5).map(|node| rule(&[(HEAD, 0b111 << (3 * node))])).collect();
+    for node in 0..5 {
+        rules.extend((0..3).map(|c| rule(&[(PLAIN, colour(node, c) | colour(node + 1, c))])));
+    }
+    rules.push(rule(&[(NOT_K, colour(0, 0))]));
+    rules.push(rule(&[(NOT_M, colour(1, 1) | colour(2, 2))]));
+    rules.push(names_negations(0b1_0010_0100, 0b1111_0000));
+    rules
+}

@@ -1,0 +1,17 @@
+//! Not for users: what the proved calls are compared with, and what makes the sheets and requests for it.
+//!
+//! `solver` answers the calls of document 01 by another method than the proved ones, and shares no code with them.
+//! `cases` are the requests that are stored for the program `calls`, many with answers by hand. The other modules make
+//! sheets and requests and run the programs.
+
+pub mod cases;
+pub mod damage;
+pub mod known;
+pub mod large;
+pub mod programs;
+pub mod random;
+pub mod request;
+pub mod sheets;
+pub mod solver;
+pub mod text;
+pub mod write;

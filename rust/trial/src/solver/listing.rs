@@ -1,0 +1,151 @@
+//! The verdict on a guess, the world views of a sheet and the six counts.
+
+use super::guess::{guess_of, negations, reduct, Guess, Negation};
+use super::ruling::is_contradicted;
+use super::sheet::{Rule, Sheet};
+use super::stable::stable_sets;
+use super::{has, within, Set};
+use std::cmp::Ordering;
+
+/// The rules of a sheet with their epistemic negations.
+#[derive(Clone, Debug)]
+pub struct Program {
+    pub atoms: usize,
+    pub rules: Vec<Rule>,
+    pub negations: Vec<Negation>,
+}
+
+/// The verdict on a guess.
+#[derive(Clone, Copy, Debug, PartialEq, Eq)]
+pub enum Verdict {
+    Empty,
+    Other { found: Guess },
+    Verified { known: Set, possible: Set, sets: u16 },
+}
+
+/// A world view.
+#[derive(Clone, Copy, Debug, PartialEq, Eq)]
+pub struct View {
+    pub guess: Guess,
+    pub known: Set,
+    pub possible: Set,
+    pub sets: u16,
+}
+
+impl View {
+    /// The four words of its record.
+    pub fn words(self) -> [u16; 4] {
+        [self.guess, self.known, self.possible, self.sets]
+    }
+}
+
+/// The world views in order, and how many guesses are views, covered, ruled, tested, empty, other.
+#[derive(Clone, Debug, PartialEq, Eq)]
+pub struct Listing {
+    pub views: Vec<View>,
+    pub counts: [u16; 6],
+}
+
+impl Program {
+    pub fn of(sheet: &Sheet) -> Self {
+        let rules = sheet.rules.clone();
+        Program { atoms: sheet.names.len(), negations: negations(&rules), rules }
+    }
+
+    /// W: the stable sets of the reduct.
+    pub fn belief_sets(&self, guess: Guess) -> Vec<Set> {
+        stable_sets(&reduct(&self.rules, &self.negations, guess), self.atoms)
+    }
+
+    pub fn verdict(&self, guess: Guess) -> Verdict {
+        self.verdict_by(guess, &self.belief_sets(guess))
+    }
+
+    /// The verdict on a guess whose belief sets these are.
+    pub fn verdict_by(&self, guess: Guess, sets: &[Set]) -> Verdict {
+        let (Some(known), Some(possible)) =
+            (sets.iter().copied().reduce(|a, b| a & b), sets.iter().copied().reduce(|a, b| a | b))
+        else {
+            return Verdict::Empty;
+        };
+        let found = guess_of(&self.negations, |negation| match negation {
+            Negation::NotKnown(atom) => !has(known, atom),
+            Negation::Possible(atom) => has(possible, atom),
+        });
+        if found == guess {
+            Verdict::Verified { known, possible, sets: sets.len() as u16 }
+        } else {
+            Verdict::Other { found }
+        }
+    }
+
+    fn is_contradicted(&self, guess: Guess) -> bool {
+        let rules = reduct(&self.rules, &self.negations, guess);
+        is_contradicted(&rules, self.atoms, &self.negations, guess)
+    }
+
+    /// The listing, by judging every guess; at most 15 negations.
+    pub fn listing(&self) -> Listing {
+        let verdicts: Vec<Verdict> = (0..1 << self.negations.len()).map(|guess| self.verdict(guess)).collect();
+        let views = world_views(&verdicts);
+        let mut counts = [0; 6];
+        for (guess, &verdict) in (0..).zip(&verdicts) {
+            for name in self.names(guess, verdict, &views) {
+                counts[name as usize] += 1;
+            }
+        }
+        Listing { views, counts }
+    }
+
+    /// The names that a guess bears: "each guess counts once", and a tested one by its verdict too.
+    fn names(&self, guess: Guess, verdict: Verdict, views: &[View]) -> Vec<Name> {
+        if views.iter().any(|view| properly_within(guess, view.guess)) {
+            return vec![Name::Covered];
+        }
+        if self.is_contradicted(guess) {
+            assert!(!matches!(verdict, Verdict::Verified { .. }), "guess {guess} is verified and contradicted");
+            return vec![Name::Ruled];
+        }
+        let name = match verdict {
+            Verdict::Empty => Name::Empty,
+            Verdict::Other { .. } => Name::Other,
+            Verdict::Verified { .. } => Name::Views,
+        };
+        vec![Name::Tested, name]
+    }
+}
+
+/// The six counts, in the order of the result.
+#[derive(Clone, Copy)]
+enum Name {
+    Views,
+    Covered,
+    Ruled,
+    Tested,
+    Empty,
+    Other,
+}
+
+/// "A world view is a verified guess of which no proper superset is verified"; size falling, then number rising.
+fn world_views(verdicts: &[Verdict]) -> Vec<View> {
+    let verified: Vec<View> = (0..).zip(verdicts).filter_map(|(guess, &verdict)| view(guess, verdict)).collect();
+    let is_maximal = |view: &View| !verified.iter().any(|other| properly_within(view.guess, other.guess));
+    let mut views: Vec<View> = verified.iter().copied().filter(is_maximal).collect();
+    views.sort_by(|a, b| order(a.guess, b.guess));
+    views
+}
+
+fn view(guess: Guess, verdict: Verdict) -> Option<View> {
+    match verdict {
+        Verdict::Verified { known, possible, sets } => Some(View { guess, known, possible, sets }),
+        Verdict::Empty | Verdict::Other { .. } => None,
+    }
+}
+
+fn order(a: Guess, b: Guess) -> Ordering {
+    b.count_ones().cmp(&a.count_ones()).then(a.cmp(&b))
+}
+
+fn properly_within(guess: Guess, other: Guess) -> bool {
+    guess != other && within(guess, other)
+}

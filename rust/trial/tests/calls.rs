@@ -1,0 +1,194 @@
+//! The program `calls`, which makes every call on requests from standard input, against the second solver.
+
+use trial::damage::{damaged, too_many_negations};
+use trial::known::{kiln, titled};
+use trial::programs::output;
+use trial::random::{seed, Random};
+use trial::request::*;
+use trial::sheets::{random_sheet, Shape};
+use trial::solver::calls::{open, Opened};
+use trial::write::{choices, hex, lettered};
+
+const SMALL: Shape = Shape { atoms: (0, 4), rules: (0, 6), negations: 4, literals: 3 };
+const MIDDLE: Shape = Shape { atoms: (3, 7), rules: (3, 16), negations: 6, literals: 4 };
+
+/// Runs the requests through the program and compares line by line; `tail` follows them and is to print nothing.
+/// Answers how often each refusal came (0: accepted).
+fn compare(requests: &[Request], tail: &[u8], piece: usize, context: &str) -> [usize; 11] {
+    let mut input: Vec<u8> = requests.iter().flat_map(Request::bytes).collect();
+    input.extend(tail);
+    let printed = String::from_utf8(output("calls", input, piece)).expect("calls prints text");
+    let mut lines = printed.split_terminator('\n');
+    let mut numbers = [0; 11];
+    for request in requests {
+        let line = request.line();
+        let shown = || format!("{context}; {request:?}; sheet {}", hex(&request.sheet));
+        assert_eq!(lines.next(), Some(line.to_string().as_str()), "{}", shown());
+        numbers[line.numbers[0] as usize] += 1;
+    }
+    assert_eq!(lines.next(), None, "no line after the last request's; {context}; tail {}", hex(tail));
+    assert!(printed.is_empty() || printed.ends_with('\n'), "each line ends with byte 10; {context}");
+    numbers
+}
+
+fn random_bytes(random: &mut Random) -> Vec<u8> {
+    if random.chance(4) {
+        return too_many_negations(random);
+    }
+    let shape = random.pick(&[SMALL, SMALL, MIDDLE]);
+    let sheet = random_sheet(random, &shape);
+    if random.chance(25) {
+        damaged(random, &sheet)
+    } else {
+        sheet
+    }
+}
+
+/// An argument around a bound: below it, at it, just outside 16 bits, or any.
+fn argument(random: &mut Random, bound: usize) -> u32 {
+    let below = random.below(bound.max(1)) as u32;
+    let bound = bound as u32;
+    let chosen = [below, bound, below + 65_536, below + (1 << 31), u32::MAX - below, random.word() as u32];
+    match random.below(16) {
+        i @ 1..=5 => chosen[i],
+        6 => bound.saturating_sub(1),
+        _ => below,
+    }
+}
+
+/// A companion, which every call passes over: mostly short, sometimes of any length or the longest.
+fn companion(random: &mut Random) -> Vec<u8> {
+    let length = match random.below(40) {
+        0 => MOST_COMPANION,
+        1 => random.below(MOST_COMPANION),
+        _ => random.below(30),
+    };
+    (0..length).map(|_| random.word() as u8).collect()
+}
+
+/// A number of cells around what an answer needs: exact, short, none, or more.
+fn cells(random: &mut Random, needed: usize) -> u16 {
+    let more = needed + random.between(1, 9);
+    random.pick(&[needed, needed.saturating_sub(1), needed / 2, 0, needed + 1, more, more]) as u16
+}
+
+fn random_request(random: &mut Random, call: u8) -> Request {
+    let sheet = random_bytes(random);
+    let opened = open(&sheet);
+    let [atoms, _, negations] = opened.as_ref().map_or([3, 0, 3], Opened::check);
+    let argument = match call {
+        CHECK | LIST => 0,
+        QUERY => argument(random, atoms),
+        _ => argument(random, 1 << negations),
+    };
+    let needed = match (call, &opened) {
+        (BELIEF_SETS, Ok(opened)) if argument < 1 << negations => opened.sets_of(argument as u16).len(),
+        (LIST, Ok(opened)) => 4 * opened.listing().views.len(),
+        _ => random.below(4),
+    };
+    let masks = [random.word() as u16, random.word() as u16];
+    let (companion, cells, first) = (companion(random), cells(random, needed), random.word() as u16);
+    Request { call, sheet, argument, masks, companion, cells, first }
+}
+
+/// 3,200 random requests of one call, in three streams; each refusal that the call has must occur.
+fn many(call: u8, refusals: &[usize]) {
+    let seed = seed();
+    let mut random = Random::new(seed, 100 + u64::from(call));
+    let context = format!("seed {seed}");
+    let mut numbers = [0; 11];
+    for count in [100, 1_500, 1_600] {
+        let requests: Vec<Request> = (0..count).map(|_| random_request(&mut random, call)).collect();
+        let some = compare(&requests, &[], 1 << 16, &context);
+        numbers.iter_mut().zip(some).for_each(|(sum, count)| *sum += count);
+    }
+    println!("call {call}: seed {seed}, 3200 requests; accepted and refused by number {numbers:?}");
+    for (number, &count) in numbers.iter().enumerate() {
+        let enough = if number == 0 || refusals.contains(&number) { count >= 5 } else { count == 0 };
+        assert!(enough, "refusal {number} came {count} times; {context}");
+    }
+}
+
+#[test]
+fn random_requests() {
+    many(CHECK, &[1, 2, 3, 4, 5, 6, 7]);
+    many(VERDICT, &[1, 2, 3, 4, 5, 6, 7, 8]);
+    many(BELIEF_SETS, &[1, 2, 3, 4, 5, 6, 7, 8, 9]);
+    many(LIST, &[1, 2, 3, 4, 5, 6, 7, 9]);
+    many(QUERY, &[1, 2, 3, 4, 5, 6, 7, 10]);
+}
+
+/// All calls mixed, the requests arriving by few bytes.
+#[test]
+fn requests_in_small_pieces() {
+    let seed = seed();
+    let mut random = Random::new(seed, 110);
+    for piece in [1, 2, 3, 5, 7, 64] {
+        let requests: Vec<Request> = (0..60).map(|i| random_request(&mut random, i % 5)).collect();
+        compare(&requests, &[], piece, &format!("seed {seed}, pieces of {piece}"));
+    }
+}
+
+/// Each call on the kiln sheet, with a companion.
+fn kiln_requests() -> Vec<Request> {
+    let request = Request { sheet: kiln(), masks: [1, 2], companion: vec![3, 0, 4], cells: 5, ..Request::default() };
+    (0..5).map(|call| Request { call, ..request.clone() }).collect()
+}
+
+/// The longest requests that are answered, 2,048 bytes of a sheet, 12,288 of a companion and 33,000 cells, which 32,768
+/// belief sets nearly fill; then short ones, in which nothing of those is left.
+#[test]
+fn the_largest_requests() {
+    let request = |sheet: &[u8], cells| Request {
+        call: BELIEF_SETS,
+        sheet: sheet.to_vec(),
+        companion: vec![255; MOST_COMPANION],
+        cells,
+        first: 3,
+        ..Request::default()
+    };
+    let long = [kiln(), vec![0; MOST_SHEET - kiln().len()]].concat();
+    let sheet = lettered(15, &choices(0..15));
+    let mut requests: Vec<Request> = [MOST_CELLS, 32_768, 32_767].map(|cells| request(&sheet, cells)).to_vec();
+    requests.push(request(&titled("8:").sheet, MOST_CELLS));
+    assert!(requests[3].line().to_string().starts_with("2 0 2 : 1 2 5 6 7 8 "), "by hand");
+    requests.push(request(&long, MOST_CELLS));
+    requests.extend(kiln_requests());
+    let numbers = compare(&requests, &[], 4_096, "the largest requests");
+    assert_eq!([numbers[0], numbers[9], numbers[6]], [3 + 5, 1, 1]);
+}
+
+/// "A request that is cut off .. ends the program": nothing is printed for it.
+#[test]
+fn requests_cut_off() {
+    let requests = kiln_requests();
+    let last = requests[3].bytes();
+    for length in 0..last.len() {
+        compare(&requests[..2], &last[..length], 1 << 16, "a request cut off");
+    }
+}
+
+/// A request beyond the limits ends the program: nothing is printed for it, and nothing for what follows.
+#[test]
+fn requests_beyond_the_limits() {
+    let requests = kiln_requests();
+    let good = &requests[3];
+    let sheet = |length| Request { sheet: vec![0; length], ..good.clone() };
+    let companion = |length| Request { companion: vec![0; length], ..good.clone() };
+    let cells = |cells| Request { cells, ..good.clone() };
+    let call = |call| Request { call, ..good.clone() };
+    let bad = [
+        sheet(MOST_SHEET + 1),
+        sheet(65_535),
+        companion(MOST_COMPANION + 1),
+        companion(65_535),
+        cells(MOST_CELLS + 1),
+        cells(65_535),
+        call(QUERY + 1),
+        call(255),
+    ];
+    for request in bad {
+        let tail = [request.bytes(), good.bytes(), good.bytes()].concat();
+        compare(&requests, &tail, 1 << 16, "a request beyond the limits");
+    }
+}
