@@ -1,4 +1,5 @@
-// A request from standard input, field by field. Each function answers whether the rest was there and within the bounds.
+// A request from standard input, field by field. `request`, and each `from_` function from its field on, answers whether the rest was
+// there and within the bounds.
 use super::line::respond;
 use libc::STDIN_FILENO;
 ghost use Prim.Native.Nat.{_≤_};

@@ -35,11 +35,13 @@ fn main() {
         let words: Vec<[u16; 4]> =
             ours.views.iter().map(|view| [view.guess, view.known.bits(), view.possible.bits(), view.sets]).collect();
         let expected: Vec<[u16; 4]> = theirs.views.iter().map(|view| view.words()).collect();
-        assert_eq!(words, expected, "{name}: the two list different world views");
+        let c = ours.counts;
+        let counts = [c.views, c.covered, c.ruled, c.tested, c.empty, c.other];
+        assert_eq!((counts, &words), (theirs.counts, &expected), "{name}: the two give different listings");
         let [atoms, rules, negations] = open(&sheet).expect("accepted").check();
         let (proved, second) = (milliseconds(proved), milliseconds(second));
         let (views, ratio) = (words.len(), proved / second);
         println!("{name:<22}{atoms:>6}{rules:>7}{negations:>4}{views:>7}{proved:>13.3}{second:>13.3}{ratio:>9.4}");
     }
-    println!("on every sheet both list the same world views; ratio: proved / second");
+    println!("on every sheet both give the same counts and world views; ratio: proved / second");
 }

@@ -6,7 +6,7 @@ use std::process::{Child, ChildStdin, Command, Stdio};
 use std::thread::{self, JoinHandle};
 
 /// Where a program stands: `target/bin` at the repository's root.
-pub fn path(name: &str) -> PathBuf {
+fn path(name: &str) -> PathBuf {
     let path = PathBuf::from(env!("CARGO_MANIFEST_DIR")).join("../../target/bin").join(name);
     assert!(path.is_file(), "{} is missing: run `rt check views calls` at the repository's root first", path.display());
     path

@@ -1,5 +1,6 @@
 //! The program `calls`, which makes every call on requests from standard input, against the second solver.
 
+use trial::cases::sheets::free;
 use trial::damage::{damaged, too_many_negations};
 use trial::known::{kiln, titled};
 use trial::programs::output;
@@ -7,7 +8,7 @@ use trial::random::{seed, Random};
 use trial::request::*;
 use trial::sheets::{random_sheet, Shape};
 use trial::solver::calls::{open, Opened};
-use trial::write::{choices, hex, lettered};
+use trial::write::hex;
 
 const SMALL: Shape = Shape { atoms: (0, 4), rules: (0, 6), negations: 4, literals: 3 };
 const MIDDLE: Shape = Shape { atoms: (3, 7), rules: (3, 16), negations: 6, literals: 4 };
@@ -148,10 +149,11 @@ fn the_largest_requests() {
         ..Request::default()
     };
     let long = [kiln(), vec![0; MOST_SHEET - kiln().len()]].concat();
-    let sheet = lettered(15, &choices(0..15));
+    let sheet = free(15);
     let mut requests: Vec<Request> = [MOST_CELLS, 32_768, 32_767].map(|cells| request(&sheet, cells)).to_vec();
     requests.push(request(&titled("8:").sheet, MOST_CELLS));
-    assert!(requests[3].line().to_string().starts_with("2 0 2 : 1 2 5 6 7 8 "), "by hand");
+    let by_hand: String = (5..33_003).map(|cell| format!(" {cell}")).collect();
+    assert_eq!(requests[3].line().to_string(), format!("2 0 2 : 1 2{by_hand}"));
     requests.push(request(&long, MOST_CELLS));
     requests.extend(kiln_requests());
     let numbers = compare(&requests, &[], 4_096, "the largest requests");

@@ -2,6 +2,7 @@
 
 use trial::cases::guesses::in_turn;
 use trial::cases::small::{sheets, EITHER, RULING_OUT, VERIFIED_AND_COVERED};
+use trial::cases::twelve::every_name;
 use trial::solver::calls::open;
 use trial::solver::guess::{reduct, reduct_by, Fate, Objective, Table, REDUCT};
 use trial::solver::listing::{Program, Verdict};
@@ -41,6 +42,15 @@ fn verified_guesses() {
         let sheet = good(text);
         let views = open(&sheet).expect("an accepted sheet").listing().views.len();
         assert!(verified(&program(&sheet)).len() > views, "{text}");
+    }
+}
+
+#[test]
+fn guesses_of_every_name() {
+    for (title, sheet) in every_name() {
+        let opened = open(&sheet).expect("an accepted sheet");
+        assert_eq!(opened.check()[2], 12, "{title}");
+        assert!(!opened.listing().counts.contains(&0), "{title}");
     }
 }
 

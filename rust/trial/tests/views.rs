@@ -6,6 +6,7 @@ use std::io::{Read, Write};
 use std::path::PathBuf;
 use std::thread;
 use std::time::Duration;
+use trial::cases::sheets::long_names;
 use trial::damage::{damaged, too_many_negations};
 use trial::known::{kiln, titled, KILN_LINES};
 use trial::programs::{feed, output, start};
@@ -78,11 +79,6 @@ fn the_sheets_to_try() {
         let sheet = fs::read(repository("examples").join(name)).expect(name);
         assert_eq!(block, printed(&sheet), "the indented lines under {name}, and what is printed");
     }
-}
-
-/// 15 atoms with names of 12 bytes.
-fn long_names() -> Vec<Vec<u8>> {
-    (b'a'..).take(15).map(|letter| [b"atom_number".as_slice(), &[letter]].concat()).collect()
 }
 
 /// "Its first 1,222 bytes decide": the longest sheet passes, one more byte or a million more are refused alike.

@@ -3,7 +3,7 @@
 use super::sheets::*;
 use super::{spaced, Case};
 use crate::known;
-use crate::request::{BELIEF_SETS, MOST_CELLS, VERDICT};
+use crate::request::{BELIEF_SETS, CHECK, MOST_CELLS, VERDICT};
 use crate::solver::calls::open;
 use crate::text::good;
 use crate::write::lettered;
@@ -126,6 +126,7 @@ fn of_twelve() -> Vec<Case> {
     for (title, sheet, verified) in sheets {
         let is_verified = |&guess| Case::new(title, VERDICT, &sheet, guess, 0).owing("0 2 ? ? ? :");
         cases.extend(verified.iter().map(is_verified));
+        cases.push(Case::new(title, CHECK, &sheet, 0, 0).owing("0 ? ? 12 :"));
         let sizes = sizes(&sheet);
         for &guess in [0, 1, 5, 2047, 2048, 3000].iter().chain(verified) {
             cases.extend(calls(title, &sheet, guess, sizes[guess as usize] + 1));

@@ -8,7 +8,7 @@ mod listed;
 mod lists;
 pub mod sheets;
 pub mod small;
-mod twelve;
+pub mod twelve;
 
 use crate::known::kiln;
 use crate::request::{Request, CHECK, QUERY};

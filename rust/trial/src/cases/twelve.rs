@@ -26,7 +26,7 @@ const FOUR: [&str; 3] = [
     "a b: b <- a, not not b, K b, M b, not M b; <- a, not K a, not M b; a <- M a, M b, not K a; a | b <- not b",
 ];
 
-/// Those side by side.
+/// Those side by side that have guesses of every name.
 const BESIDE: [(&str, [usize; 3]); 4] = [
     ("four negations, the first thrice", [0, 0, 0]),
     ("four negations, the first twice and the second", [0, 0, 1]),
@@ -35,8 +35,9 @@ const BESIDE: [(&str, [usize; 3]); 4] = [
 ];
 
 pub fn cases() -> Vec<Case> {
-    let parts = [none_or_one, ruled, tested, groups, at_most, side_by_side, fifteen_atoms, every_name];
-    parts.into_iter().flat_map(|part| part()).collect()
+    let parts = [none_or_one, ruled, tested, groups, at_most, side_by_side, fifteen_atoms];
+    let every_name = every_name().into_iter().flat_map(|(title, sheet)| listed(title, sheet).edges());
+    parts.into_iter().flat_map(|part| part()).chain(every_name).collect()
 }
 
 /// No view, or one.
@@ -153,7 +154,7 @@ fn fifteen_atoms() -> Vec<Case> {
     listed("15 atoms, eight facts, 12 negations", sheet).counted([1, 15, 4096 - 16, 1, 0, 0]).longer(5)
 }
 
-fn every_name() -> Vec<Case> {
-    let sheet = |parts: [usize; 3]| beside(&parts.map(|part| good(FOUR[part])));
-    BESIDE.iter().flat_map(|&(title, parts)| listed(title, sheet(parts)).edges()).collect()
+/// The sheets with guesses of every name.
+pub fn every_name() -> [(&'static str, Vec<u8>); 4] {
+    BESIDE.map(|(title, parts)| (title, beside(&parts.map(|part| good(FOUR[part])))))
 }

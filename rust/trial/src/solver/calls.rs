@@ -69,7 +69,7 @@ impl Opened {
     }
 
     /// The desk call: counts and records as byte pairs; refusal 9.
-    pub fn list_bytes(&self, out: &mut [u8]) -> Result<(), Refusal> {
+    fn list_bytes(&self, out: &mut [u8]) -> Result<(), Refusal> {
         let listing = self.listing();
         let mut words = listing.counts.to_vec();
         words.extend(records(listing));
