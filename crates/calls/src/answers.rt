@@ -1,4 +1,4 @@
-// What each call answers, as fields.
+// What the calls answer, as fields.
 use super::output::field;
 use engine::Checked;
 use engine::Counted;
@@ -6,8 +6,10 @@ use engine::Judged;
 use engine::Listed;
 use engine::Queried;
 use engine::belief_sets;
+use engine::changes;
 use engine::check;
 use engine::list;
+use engine::list_at;
 use engine::query;
 use engine::verdict;
 ghost use Prim.Native.Nat.{_≤_};
@@ -32,11 +34,11 @@ fn three(x: usize, y: usize, z: usize, at: usize, out: &mut [u8]) -> usize
     field(z, b, out)
 }
 
-fn checked(sheet: &[u8], at: usize, out: &mut [u8]) -> usize
+fn checked(r: Checked, at: usize, out: &mut [u8]) -> usize
     requires { ⌜ (at ≤ length (now out)) × (1024 ≤ length (now out)) ⌝ }
     ensures { λ r. ⌜ r ≤ length (now (out .exit)) ⌝ }
 {
-    match check(sheet) {
+    match r {
         Checked::Accepted {
             atoms,
             rules,
@@ -49,11 +51,11 @@ fn checked(sheet: &[u8], at: usize, out: &mut [u8]) -> usize
     }
 }
 
-fn judged(sheet: &[u8], guess: u32, at: usize, out: &mut [u8]) -> usize
+fn judged(r: Judged, at: usize, out: &mut [u8]) -> usize
     requires { ⌜ (at ≤ length (now out)) × (1024 ≤ length (now out)) ⌝ }
     ensures { λ r. ⌜ r ≤ length (now (out .exit)) ⌝ }
 {
-    match verdict(sheet, guess) {
+    match r {
         Judged::Empty => {
             let a = field(0, at, out);
             field(0, a, out)
@@ -76,11 +78,11 @@ fn judged(sheet: &[u8], guess: u32, at: usize, out: &mut [u8]) -> usize
     }
 }
 
-fn counted(sheet: &[u8], guess: u32, words: &mut [u16], at: usize, out: &mut [u8]) -> usize
+fn counted(r: Counted, at: usize, out: &mut [u8]) -> usize
     requires { ⌜ (at ≤ length (now out)) × (1024 ≤ length (now out)) ⌝ }
     ensures { λ r. ⌜ r ≤ length (now (out .exit)) ⌝ }
 {
-    match belief_sets(sheet, guess, words) {
+    match r {
         Counted::Accepted { count } => {
             let a = field(0, at, out);
             field(count, a, out)
@@ -89,11 +91,11 @@ fn counted(sheet: &[u8], guess: u32, words: &mut [u16], at: usize, out: &mut [u8
     }
 }
 
-fn listed(sheet: &[u8], words: &mut [u16], at: usize, out: &mut [u8]) -> usize
+fn listed(r: Listed, at: usize, out: &mut [u8]) -> usize
     requires { ⌜ (at ≤ length (now out)) × (1024 ≤ length (now out)) ⌝ }
     ensures { λ r. ⌜ r ≤ length (now (out .exit)) ⌝ }
 {
-    match list(sheet, words) {
+    match r {
         Listed::Accepted {
             views,
             covered,
@@ -110,11 +112,11 @@ fn listed(sheet: &[u8], words: &mut [u16], at: usize, out: &mut [u8]) -> usize
     }
 }
 
-fn queried(sheet: &[u8], atom: u32, at: usize, out: &mut [u8]) -> usize
+fn queried(r: Queried, at: usize, out: &mut [u8]) -> usize
     requires { ⌜ (at ≤ length (now out)) × (1024 ≤ length (now out)) ⌝ }
     ensures { λ r. ⌜ r ≤ length (now (out .exit)) ⌝ }
 {
-    match query(sheet, atom) {
+    match r {
         Queried::Yes => {
             let a = field(0, at, out);
             field(0, a, out)
@@ -136,6 +138,7 @@ pub fn answer(
     call: u8,
     sheet: &[u8],
     argument: u32,
+    companion: &[u8],
     words: &mut [u16],
     at: usize,
     out: &mut [u8],
@@ -144,10 +147,12 @@ pub fn answer(
     ensures { λ r. ⌜ r ≤ length (now (out .exit)) ⌝ }
 {
     match call {
-        0 => checked(sheet, at, out),
-        1 => judged(sheet, argument, at, out),
-        2 => counted(sheet, argument, words, at, out),
-        3 => listed(sheet, words, at, out),
-        _ => queried(sheet, argument, at, out),
+        0 => checked(check(sheet), at, out),
+        1 => judged(verdict(sheet, argument), at, out),
+        2 => counted(belief_sets(sheet, argument, words), at, out),
+        3 => listed(list(sheet, words), at, out),
+        4 => queried(query(sheet, argument), at, out),
+        5 => listed(list_at(sheet, companion, argument, words), at, out),
+        _ => counted(changes(sheet, companion, words), at, out),
     }
 }

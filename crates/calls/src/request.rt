@@ -21,7 +21,7 @@ fn number(low: u16, high: u16) -> u32 {
 }
 
 // How many cells, and what the first holds.
-fn from_cells(call: u8, sheet: &[u8], argument: u32) -> bool {
+fn from_cells(call: u8, sheet: &[u8], argument: u32, companion: &[u8]) -> bool {
     let mut b = [0u8; 4];
     if io::read_full(STDIN_FILENO, &mut b) < 4 {
         return false;
@@ -30,7 +30,7 @@ fn from_cells(call: u8, sheet: &[u8], argument: u32) -> bool {
     if 33000 < count {
         return false;
     }
-    respond(call, sheet, argument, count, word(b[2], b[3]));
+    respond(call, sheet, argument, companion, count, word(b[2], b[3]));
     true
 }
 
@@ -39,7 +39,7 @@ fn from_companion(call: u8, sheet: &[u8], argument: u32, companion: &mut [u8]) -
     if io::read_full(STDIN_FILENO, companion) < companion.len() {
         return false;
     }
-    from_cells(call, sheet, argument)
+    from_cells(call, sheet, argument, companion)
 }
 
 // The argument, the masks and the companion's length.
@@ -72,7 +72,7 @@ pub fn request() -> bool {
     }
     let call = b[0];
     let n = word(b[1], b[2]) as usize;
-    if 4 < call {
+    if 6 < call {
         return false;
     }
     if 2048 < n {

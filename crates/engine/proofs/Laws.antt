@@ -16,6 +16,7 @@ use Rattle.semantics.specs.Definitions.Returned.{Returned, accepted, refusal, a
 use Rattle.semantics.specs.Definitions.Verdict.{verdict, beliefSets}
 use Rattle.semantics.specs.Definitions.Listing.{Tally, tallyOf, View, listing}
 use Rattle.semantics.specs.Definitions.Calls.{forGuess, forAtom, verdictCall, setsInto, beliefSetsCall, Result, resultOf, resultInto, recordsNeed, listCall, recordsOf, queryCall}
+use Rattle.semantics.specs.Definitions.Calendar.{ofMinute, changesCall}
 use Rattle.semantics.specs.Definitions.Query.{Yes, No, Open, answerBy}
 use Rattle.semantics.specs.Theorems.Layout.{places-bytes}
 use Rattle.semantics.specs.Theorems.Returned.{fits-limited, short-limited}
@@ -34,11 +35,12 @@ use Rattle.engine.specs.declared.Counted.{Counted}
 use Rattle.engine.specs.declared.Listed.{Listed}
 use Rattle.engine.specs.declared.Queried.{Queried}
 use Rattle.engine.specs.Answers.{checked, judged, counted, listed, queried}
-use Rattle.engine.specs.Sources.{Reads, Within}
+use Rattle.engine.specs.Sources.{Reads, Within, Outlined}
 use Rattle.engine.specs.Demand1.{CheckDemand, check-demand}
 use Rattle.engine.specs.Demand2.{VerdictDemand, verdict-demand, SetsDemand, sets-demand}
-use Rattle.engine.specs.Demand3.{ListingDemand, listing-demand}
+use Rattle.engine.specs.Demand3.{AsListed, ListingDemand, listing-demand}
 use Rattle.engine.specs.Queries.{QueryDemand, query-demand}
+use Rattle.engine.specs.Hours.{MinuteDemand, minute-demand, ChangesDemand, changes-demand}
 
 -- ---- what was read
 module _ (from : Returned Setting) (words : List ℕ) where
@@ -51,6 +53,11 @@ module _ (from : Returned Setting) (words : List ℕ) where
 
   pub outlined : (r : Source) {x : Outline} → Reads from r words → r ≡ Accepted x → Outlines x words
   outlined r h e = reads-accepted r h e .0
+
+  -- whatever was read
+  pub outlined-so : (r : Source) → Reads from r words → Outlined r words
+  outlined-so (Accepted x) h = h .0
+  outlined-so (Refused number place) h = tt
 
   pub reads-refused : (r : Source) {number place : ℕ} → Reads from r words → r ≡ Refused number place → from ≡ refusal number place
   reads-refused r h e = subst (λ z. Reads from z words) e h
@@ -181,3 +188,14 @@ module _ (from : Returned Setting) where
       → (listed r ≡ answer (λ v. v .tally) (listCall from (length before)))
       × ((after ≡ afterwards recordsOf (listCall from (length before)) before) × ListingDemand from r before after)
   listing-met before r after p = (p .0, (p .1, listing-demand from r before after (p .0) (p .1)))
+
+pub minute-met : (sheet calendar : List ℕ) (minute : ℕ) (before : List ℕ) (r : Listed) (after : List ℕ) → AsListed (ofMinute sheet calendar minute) r before after
+    → (listed r ≡ answer (λ v. v .tally) (listCall (ofMinute sheet calendar minute) (length before)))
+    × ((after ≡ afterwards recordsOf (listCall (ofMinute sheet calendar minute) (length before)) before) × MinuteDemand sheet calendar minute r before after)
+minute-met sheet calendar minute before r after p = (p .0, (p .1, minute-demand sheet calendar minute r before after p))
+
+pub changes-met : (sheet calendar before : List ℕ) (r : Counted) (after : List ℕ)
+    → (counted r ≡ answer length (changesCall sheet calendar (length before))) × (after ≡ afterwards (λ w. w) (changesCall sheet calendar (length before)) before)
+    → (counted r ≡ answer length (changesCall sheet calendar (length before)))
+    × ((after ≡ afterwards (λ w. w) (changesCall sheet calendar (length before)) before) × ChangesDemand sheet calendar r before after)
+changes-met sheet calendar before r after p = (p .0, (p .1, changes-demand sheet calendar r before after (p .0) (p .1)))

@@ -2,3 +2,4 @@
 pub mod Laws
 pub mod Checks
 pub mod Opened
+pub mod Calendars

@@ -1,4 +1,4 @@
--- Demand 3, of the answer of the call `list`. Assumes nothing.
+-- Demand 3, of the answers of the calls `list` and `list_at`. Assumes nothing.
 use Prim.Native.Nat.{ℕ, _*_, _≤_, _<_}
 use mathlib.Core.Path.{_≡_, sym, ap, _∙_, subst}
 use mathlib.Core.List.{List, _++_}
@@ -20,7 +20,12 @@ use Rattle.engine.specs.declared.Listed.{Listed}
 use Rattle.engine.specs.declared.Listed.the-variants.{Refused}
 use Rattle.engine.specs.Answers.{listed, listed-fixed}
 
--- what `list` leaves where it answers the six numbers t
+-- r is the answer of a listing of that source where it is lent `before`, and leaves `after`
+abbrev pub AsListed : (from : Returned Setting) → Listed → (before after : List ℕ) → Type 0
+AsListed from r before after =
+    (listed r ≡ answer (λ v. v .tally) (listCall from (length before))) × (after ≡ afterwards recordsOf (listCall from (length before)) before)
+
+-- what a listing leaves where it answers the six numbers t
 pub record RecordsWritten (from : Returned Setting) (t : Tally) (before after : List ℕ) : Type 0 where
   pub of : Setting
   pub accepts : from ≡ accepted of
@@ -32,7 +37,7 @@ pub record RecordsWritten (from : Returned Setting) (t : Tally) (before after : 
   -- six counts that are the numbers of guesses of these names, and the two sums
   pub tally : TallyOf of t
 
--- r is what `list` answers where it is lent `before`, and leaves `after`. The call's source is `from`: a setting, or the refusal that comes before.
+-- r is what a listing answers where it is lent `before`, and leaves `after`. The call's source is `from`: a setting, or the refusal that comes before.
 pub record ListingDemand (from : Returned Setting) (r : Listed) (before after : List ℕ) : Type 0 where
   pub listing-written : (t : Tally) → listed r ≡ accepted t → RecordsWritten from t before after
   -- a refusal that comes before is the answer; else 9 exactly where 4 times views is over the words, with the number of views

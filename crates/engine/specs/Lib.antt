@@ -4,4 +4,5 @@ pub mod Demand1
 pub mod Demand2
 pub mod Demand3
 pub mod Queries
+pub mod Hours
 pub mod Sources

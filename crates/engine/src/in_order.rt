@@ -1,6 +1,9 @@
-// The listing in the built-in order.
+// The listing in the built-in order, of rules in words and of what was read.
+use super::Listed;
+use super::source::Source;
 use guess::outline::Outline;
 use listing::outcomes::Tally;
+use listing::records::write_records;
 use listing::walk;
 use order::guesses;
 ghost use mathlib.Core.Path.{_≡_};
@@ -11,6 +14,7 @@ ghost use Rattle.semantics.specs.Walk.{recordsRoom};
 ghost use Rattle.guess.specs.Programs.{settingIn, Outlines};
 ghost use Rattle.listing.specs.Records.{viewsIn};
 ghost use Rattle.listing.specs.Outcomes.{tallyFrom};
+ghost use Rattle.engine.specs.Sources.{Outlined, Lists};
 
 // The six counts; and the records of the world views, in the first words of `records`. What the words after them hold then is left open.
 pub fn list_in_order(words: &[u16], x: Outline, records: &mut [u16]) -> Tally
@@ -22,4 +26,34 @@ pub fn list_in_order(words: &[u16], x: Outline, records: &mut [u16]) -> Tally
 {
     let order = guesses();
     walk(words, x, &order[..], &mut records[..])
+}
+
+// The listing of what was read, into a lent buffer, and the six counts: the refusal that came before, or 9.
+pub fn list_from(source: Source, words: &[u16], out: &mut [u16]) -> Listed
+    requires { ⌜ Outlined source (now words) ⌝ }
+    ensures { λ r. ⌜ length (now (out .exit)) ≡ length (now (out .entry)) ⌝ }
+    ensures { λ r. ⌜ Lists source (now (words .entry)) r (now (out .entry)) (now (out .exit)) ⌝ }
+{
+    match source {
+        Source::Accepted(x) => {
+            let mut records = [0u16; 16384];
+            let t = list_in_order(words, x, &mut records[..]);
+            if out.len() < 4 * t.views {
+                return Listed::Refused {
+                    number: 9,
+                    place: t.views,
+                };
+            }
+            write_records(&records[..], t.views, &mut out[..]);
+            Listed::Accepted {
+                views: t.views,
+                covered: t.covered,
+                ruled: t.ruled,
+                tested: t.tested,
+                empty: t.empty,
+                other: t.other,
+            }
+        }
+        Source::Refused(number, place) => Listed::Refused { number, place },
+    }
 }

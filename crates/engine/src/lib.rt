@@ -2,13 +2,18 @@
 // input.
 mod in_order;
 mod lent;
+mod minute;
 mod source;
 
+use calendar::minutes_of_change;
+use in_order::list_from;
 use in_order::list_in_order;
 use lent::write;
 use listing::atoms::known_in_all;
 use listing::atoms::possible_in_none;
-use listing::records::write_records;
+use minute::Scheduled;
+use minute::at_minute;
+use minute::with_calendar;
 use sheet::Opened;
 use sheet::open;
 use source::Source;
@@ -23,11 +28,13 @@ ghost use lib.ListN.{length};
 ghost use Rattle.semantics.specs.Definitions.Check.{check as checkOf, ofSheet};
 ghost use Rattle.semantics.specs.Definitions.Returned.{answer, afterwards};
 ghost use Rattle.semantics.specs.Definitions.Calls.{verdictCall, beliefSetsCall, listCall, recordsOf, queryCall};
+ghost use Rattle.semantics.specs.Definitions.Calendar.{ofMinute, changesCall};
 ghost use Rattle.engine.specs.Answers.{checked, judged, counted, listed, queried};
 ghost use Rattle.engine.specs.Demand1.{CheckDemand};
 ghost use Rattle.engine.specs.Demand2.{VerdictDemand, SetsDemand};
 ghost use Rattle.engine.specs.Demand3.{ListingDemand};
 ghost use Rattle.engine.specs.Queries.{QueryDemand};
+ghost use Rattle.engine.specs.Hours.{MinuteDemand, ChangesDemand};
 
 // What the check answers: the numbers of atoms, of rules and of negations, or a refusal by its number and place.
 pub enum Checked {
@@ -60,7 +67,7 @@ pub enum Judged {
     },
 }
 
-// How many belief sets were written, or a refusal by its number and place (for 9: the number of sets).
+// How many belief sets or minutes were written, or a refusal by its number and place (for 9: how many there are).
 pub enum Counted {
     Accepted { count: usize },
     Refused { number: u8, place: usize },
@@ -162,27 +169,43 @@ pub fn list(sheet: &[u8], out: &mut [u16]) -> Listed
     ensures { λ r. ⌜ ListingDemand (ofSheet (now (sheet .entry))) r (now (out .entry)) (now (out .exit)) ⌝ }
 {
     let mut words = [0u16; 512];
-    match of_sheet(sheet, &mut words[..]) {
-        Source::Accepted(x) => {
-            let mut records = [0u16; 16384];
-            let t = list_in_order(&words[..], x, &mut records[..]);
-            if out.len() < 4 * t.views {
-                return Listed::Refused {
+    let source = of_sheet(sheet, &mut words[..]);
+    list_from(source, &words[..], &mut out[..])
+}
+
+// The listing at a minute: that of the sheet with only the rules in force. Refusals 1 to 7 of the whole sheet, then 1, 2, 11 and 6 of the
+// calendar, then 12, then 9.
+pub fn list_at(sheet: &[u8], calendar: &[u8], minute: u32, out: &mut [u16]) -> Listed
+    ensures { λ r. ⌜ listed r ≡ answer (λ v. v .tally) (listCall (ofMinute (now (sheet .entry)) (now (calendar .entry)) minute) (length (now (out .entry)))) ⌝ }
+    ensures { λ r. ⌜ now (out .exit) ≡ afterwards recordsOf (listCall (ofMinute (now (sheet .entry)) (now (calendar .entry)) minute) (length (now (out .entry)))) (now (out .entry)) ⌝ }
+    ensures { λ r. ⌜ MinuteDemand (now (sheet .entry)) (now (calendar .entry)) minute r (now (out .entry)) (now (out .exit)) ⌝ }
+{
+    let mut words = [0u16; 512];
+    let source = at_minute(sheet, calendar, minute, &mut words[..]);
+    list_from(source, &words[..], &mut out[..])
+}
+
+// The minutes of change, rising, into a lent buffer. Refusals 1 to 7 of the sheet, then 1, 2, 11 and 6 of the calendar, then 9.
+pub fn changes(sheet: &[u8], calendar: &[u8], out: &mut [u16]) -> Counted
+    ensures { λ r. ⌜ counted r ≡ answer length (changesCall (now (sheet .entry)) (now (calendar .entry)) (length (now (out .entry)))) ⌝ }
+    ensures { λ r. ⌜ now (out .exit) ≡ afterwards (λ w. w) (changesCall (now (sheet .entry)) (now (calendar .entry)) (length (now (out .entry)))) (now (out .entry)) ⌝ }
+    ensures { λ r. ⌜ ChangesDemand (now (sheet .entry)) (now (calendar .entry)) r (now (out .entry)) (now (out .exit)) ⌝ }
+{
+    let mut entries = [0u16; 192];
+    match with_calendar(sheet, calendar, &mut entries[..]) {
+        Scheduled::Accepted(x, n) => {
+            let mut minutes = [0u16; 10080];
+            let count = minutes_of_change(&entries[..], n, x.rules, &mut minutes[..]);
+            if out.len() < count {
+                return Counted::Refused {
                     number: 9,
-                    place: t.views,
+                    place: count,
                 };
             }
-            write_records(&records[..], t.views, &mut out[..]);
-            Listed::Accepted {
-                views: t.views,
-                covered: t.covered,
-                ruled: t.ruled,
-                tested: t.tested,
-                empty: t.empty,
-                other: t.other,
-            }
+            write(&minutes[..], count, &mut out[..]);
+            Counted::Accepted { count }
         }
-        Source::Refused(number, place) => Listed::Refused { number, place },
+        Scheduled::Refused(number, place) => Counted::Refused { number, place },
     }
 }
 

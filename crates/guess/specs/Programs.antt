@@ -15,6 +15,14 @@ use Rattle.guess.specs.declared.outline.Outline.{Outline}
 abbrev pub settingIn : Outline → (words : List ℕ) → Setting
 settingIn x words = settingOf (x .atoms) (map ruleOfMasks (rulesIn words (x .rules)))
 
+-- so many rules in the words are within the limits
+pub record WithinLimits (atoms rules : ℕ) (words : List ℕ) : Type 0 where
+  pub few-atoms : atoms ≤ mostAtoms
+  pub few-rules : rules ≤ programRoom
+  pub stand : 8 * rules ≤ length words
+  pub below : AllBelow atoms (rulesIn words rules)
+  pub few-negations : k (settingOf atoms (map ruleOfMasks (rulesIn words rules))) ≤ mostNegations
+
 -- x is the outline of the rules in the words, and these are within the limits
 pub record Outlines (x : Outline) (words : List ℕ) : Type 0 where
   pub few-atoms : x .atoms ≤ mostAtoms

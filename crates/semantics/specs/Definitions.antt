@@ -16,3 +16,5 @@ pub mod Query
 pub mod Calls
 pub mod Desk
 pub mod Program
+-- ---- document 02
+pub mod Calendar

@@ -1,5 +1,5 @@
 -- Sheets whose lists are known, limit cases of the reading, the table of the reduct, verdicts and belief sets of guesses, what the listing, the
--- desk call and the query return, and what `views` prints, computed from the bytes.
+-- desk call and the query return, what `views` prints, and calendars, computed from the bytes.
 pub mod Sheets
 pub mod Own
 pub mod Limits
@@ -8,4 +8,7 @@ pub mod Guesses
 pub mod Listings
 pub mod Queries
 pub mod Texts
+pub mod Calendars
+pub mod Minutes
+pub mod Changed
 pub mod Computed

@@ -1,4 +1,4 @@
--- What document 01 means. Definitions: what a reader must believe, in the document's order. Theorems: the papers' reading of them.
+-- What documents 01 and 02 mean. Definitions: what a reader must believe, in the documents' order. Theorems: the papers' reading of them.
 -- Walk: the listing as it is run; Fields: where a reader finds the fields of a sheet; Words: programs in words. The definitions do
 -- not rest on these three.
 -- Examples: sheets with known lists, computed.

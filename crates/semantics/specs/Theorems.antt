@@ -1,6 +1,7 @@
 -- The papers' reading of the definitions.
 -- ---- the bytes of a sheet: reading steps, what an accepted sheet says, and the layout
 pub mod Reading
+pub mod Turns
 pub mod Fields
 pub mod Names
 pub mod Places
@@ -39,3 +40,13 @@ pub mod Records
 pub mod Query
 -- ---- the digits of a number
 pub mod Decimal
+-- ---- document 02
+pub mod InForce
+pub mod CalendarCases
+pub mod CalendarExact
+pub mod CalendarLayout
+pub mod Minute
+pub mod Changes
+pub mod CalendarCalls
+pub mod CalendarPlaces
+pub mod Ends

@@ -1,4 +1,4 @@
--- A number as a finite set: of atoms, or of epistemic negations. "Bit i (value 2^i) means atom i"; "A set is the number with its atoms'
+-- A number as a finite set: of atoms, of epistemic negations, or of rules by number. "Bit i (value 2^i) means atom i"; "A set is the number with its atoms'
 -- bits." Assumes nothing.
 use Prim.Native.Nat.{ℕ, zero, suc, _+_, _-_, _/_, _%_, _^_, _<_}
 use mathlib.Core.Path.{_≡_}

@@ -9,7 +9,8 @@ use Rattle.sheet.specs.declared.steps.Cursor.{Cursor}
 use Rattle.sheet.specs.declared.steps.Field.{Field}
 use Rattle.sheet.specs.declared.steps.Field.the-variants.{Got, Refused}
 use Rattle.sheet.specs.Steps.{fieldOf}
-use Rattle.sheet.proofs.Laws.{was-field, was-refused, starts, goes-on, stops, is-done}
+use Rattle.semantics.specs.Theorems.Turns.{starts, goes-on, stops, is-done}
+use Rattle.sheet.proofs.Laws.{was-field, was-refused}
 
 pub record Loop (A : Type 0) : Type 0 where
   pub step : List A → ℕ → Reading A

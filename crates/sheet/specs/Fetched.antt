@@ -10,10 +10,10 @@ use lib.Dec.{ltb}
 use lib.ListN.{length, getD}
 use Rattle.sets.specs.Decides.{decided, dec-le}
 use Rattle.semantics.specs.Definitions.Reading.{field}
-use Rattle.semantics.specs.Definitions.Sheet.{Sheet, longestSheet}
+use Rattle.semantics.specs.Definitions.Sheet.{Sheet, longestSheet, mostRules}
 use Rattle.semantics.specs.Definitions.Check.{opened}
 use Rattle.semantics.specs.Fields.{ruleFrom}
-use Rattle.semantics.specs.Theorems.Accepted.{accepted-lies, rule-lies}
+use Rattle.semantics.specs.Theorems.Accepted.{accepted-read, accepted-lies, rule-lies}
 use Rattle.sheet.specs.Opened.{openedOf, opened-as}
 use Rattle.sheet.specs.declared.Contents.{Contents}
 use Rattle.sheet.specs.declared.Opened.the-variants.{Accepted}
@@ -66,6 +66,11 @@ module _ (s : List ℕ) (at rules : ℕ) (begin : RulesBegin s at rules) where
       let (x, end, e, there, many) = begin in
       let l = accepted-lies s x end e in
       omega (arith, l .whole, l .not-long)
+
+  pub few-rules : rules ≤ mostRules
+  few-rules =
+      let (x, end, e, there, many) = begin in
+      omega (arith, accepted-read s x end e .0 .few-rules)
 
   module _ (number : ℕ) {r : Fetched} where
     pub by-number : r ≡ fetched at rules number → RuleByNumber s number r

@@ -1,4 +1,4 @@
-// A sheet, opened: whether it is accepted, what it says, and its rules, by number and in words.
+// A sheet, opened: whether it is accepted, what it says, and its rules, by number and in words. `present` and `word` read a calendar's bytes too.
 mod fields;
 mod names;
 mod opened_sheet;
@@ -7,12 +7,15 @@ mod sections;
 mod steps;
 mod words;
 
+pub use fields::present;
+pub use fields::word;
 use opened_sheet::opened_at;
 use opened_sheet::rule_of;
 use sections::sections as read_sections;
 use sets::size;
 use steps::Field;
 pub use words::load;
+pub use words::load_only;
 ghost use mathlib.Core.Path.{_≡_};
 ghost use Rattle.semantics.specs.Definitions.Check.{opened};
 ghost use Rattle.sheet.specs.Opened.{openedOf};

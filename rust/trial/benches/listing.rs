@@ -1,28 +1,9 @@
 //! The proved listing and the second solver on named sheets: the time of each, their ratio, and that both give the same
-//! listing. A time is the best of at least three runs; where the first takes over a second, it is the only one.
+//! listing.
 
-use std::time::{Duration, Instant};
 use trial::large::named;
 use trial::solver::calls::open;
-
-/// What a call gives, and its best time.
-fn timed<T>(call: impl Fn() -> T) -> (T, Duration) {
-    let mut times = Vec::new();
-    loop {
-        let start = Instant::now();
-        let given = call();
-        times.push(start.elapsed());
-        let spent: Duration = times.iter().sum();
-        let enough = times.len() >= 3 && spent > Duration::from_millis(100);
-        if enough || times[0] > Duration::from_secs(1) {
-            return (given, times.into_iter().min().expect("a run"));
-        }
-    }
-}
-
-fn milliseconds(time: Duration) -> f64 {
-    time.as_secs_f64() * 1_000.0
-}
+use trial::timing::{milliseconds, timed};
 
 fn main() {
     println!(

@@ -1,8 +1,8 @@
-//! Damaged sheets: bytes changed, cut off or added, counts and masks too large, names made equal.
+//! Damaged sheets: bytes changed, cut off or added, counts and masks too large, names made equal. Damaged calendars.
 
 use crate::random::Random;
 use crate::sheets::random_names;
-use crate::write::{sheet, K, M};
+use crate::write::{calendar, sheet, Entry, K, M};
 
 /// A sheet with one kind of damage; some of them are still accepted.
 pub fn damaged(random: &mut Random, sheet: &[u8]) -> Vec<u8> {
@@ -92,4 +92,36 @@ pub fn too_many_negations(random: &mut Random) -> Vec<u8> {
         }
     }
     sheet(&random_names(random, atoms, 12), &rules)
+}
+
+/// A calendar of these entries with one kind of damage, beside a sheet of so many rules; some are still accepted.
+pub fn damaged_calendar(random: &mut Random, entries: &[Entry], rules: usize) -> Vec<u8> {
+    let mut bytes = calendar(&entry_damaged(random, entries, rules));
+    match random.below(8) {
+        0 => bytes.truncate(random.below(bytes.len())),
+        1 => extend(random, &mut bytes),
+        2 => change(random, &mut bytes),
+        3 => bytes[0] = random.pick(&[bytes[0] + 1, bytes[0].wrapping_sub(1), 64, 65, 255]),
+        _ => (),
+    }
+    bytes
+}
+
+/// The entries, mostly one of them with a field at or beyond its limit.
+fn entry_damaged(random: &mut Random, entries: &[Entry], rules: usize) -> Vec<Entry> {
+    let mut entries = entries.to_vec();
+    if entries.is_empty() {
+        entries.push((0, 100, 200));
+    }
+    let at = random.below(entries.len());
+    let (rule, first, end) = &mut entries[at];
+    match random.below(8) {
+        0 => *rule = random.pick(&[rules as u8, rules.saturating_sub(1) as u8, 255]),
+        1 => *first = random.pick(&[10_079, 10_080, 65_535]),
+        2 => *end = random.pick(&[10_079, 10_080, 65_535]),
+        3 => *end = *first,
+        4 => *end = *first + 1,
+        _ => (),
+    }
+    entries
 }

@@ -1,9 +1,10 @@
 //! Not for users: what the proved calls are compared with, and what makes the sheets and requests for it.
 //!
-//! `solver` answers the calls of document 01 by another method than the proved ones, and shares no code with them.
-//! `cases` are the requests that are stored for the program `calls`, many with answers by hand. The other modules make
-//! sheets and requests and run the programs.
+//! `solver` answers the calls of documents 01 and 02 by another method than the proved ones, and shares no code with
+//! them. `cases` are the requests that are stored for the program `calls`, many with answers by hand. The other modules
+//! make sheets, calendars and requests, run the programs and take their times.
 
+pub mod calendars;
 pub mod cases;
 pub mod damage;
 pub mod known;
@@ -14,4 +15,5 @@ pub mod request;
 pub mod sheets;
 pub mod solver;
 pub mod text;
+pub mod timing;
 pub mod write;

@@ -11,13 +11,16 @@ pub const VERDICT: u8 = 1;
 pub const BELIEF_SETS: u8 = 2;
 pub const LIST: u8 = 3;
 pub const QUERY: u8 = 4;
+pub const LIST_AT: u8 = 5;
+pub const CHANGES: u8 = 6;
 
 /// The most bytes of a sheet and of a companion, and the most cells, of a request that is answered.
 pub const MOST_SHEET: usize = 2_048;
 pub const MOST_COMPANION: usize = 12_288;
 pub const MOST_CELLS: u16 = 33_000;
 
-/// One call. What it does not take is passed over: the masks and the companion by every call.
+/// One call. What it does not take is passed over: the masks by every call, the companion by all but `LIST_AT` and
+/// `CHANGES`, whose calendar it is.
 #[derive(Clone, Debug, Default, PartialEq, Eq)]
 pub struct Request {
     pub call: u8,
@@ -88,6 +91,8 @@ impl Request {
             BELIEF_SETS => vec![opened.belief_sets(self.argument, lent)? as u32],
             LIST => opened.list(lent)?.map(u32::from).to_vec(),
             QUERY => vec![query_value(opened.query(self.argument)?)],
+            LIST_AT => opened.list_at(&self.companion, self.argument, lent)?.map(u32::from).to_vec(),
+            CHANGES => vec![opened.changes(&self.companion, lent)? as u32],
             call => panic!("no call {call}"),
         })
     }

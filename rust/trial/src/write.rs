@@ -1,4 +1,4 @@
-//! Sheets written from names and rules.
+//! Sheets written from names and rules, calendars from entries.
 
 use crate::solver::sheet::Rule;
 use std::ops::Range;
@@ -48,6 +48,20 @@ pub fn sheet<N: AsRef<[u8]>>(names: &[N], rules: &[Rule]) -> Vec<u8> {
 pub fn lettered(atoms: usize, rules: &[Rule]) -> Vec<u8> {
     let names: Vec<[u8; 1]> = (b'a'..=b'z').take(atoms).map(|letter| [letter]).collect();
     sheet(&names, rules)
+}
+
+/// An entry of a calendar: the rule's number, the first minute and the end.
+pub type Entry = (u8, u16, u16);
+
+/// The bytes of a calendar. Nothing is checked here either.
+pub fn calendar(entries: &[Entry]) -> Vec<u8> {
+    let bytes = |&(rule, first, end): &Entry| {
+        let ([first, first_high], [end, end_high]) = (first.to_le_bytes(), end.to_le_bytes());
+        [rule, first, first_high, end, end_high]
+    };
+    let mut calendar = vec![entries.len() as u8];
+    calendar.extend(entries.iter().flat_map(bytes));
+    calendar
 }
 
 /// The bytes in base sixteen, for messages.

@@ -1,29 +1,33 @@
 //! The program `calls`, which makes every call on requests from standard input, against the second solver.
 
+use trial::calendars::{edges, random_entries};
 use trial::cases::sheets::free;
-use trial::damage::{damaged, too_many_negations};
+use trial::damage::{damaged, damaged_calendar, too_many_negations};
 use trial::known::{kiln, titled};
 use trial::programs::output;
 use trial::random::{seed, Random};
 use trial::request::*;
 use trial::sheets::{random_sheet, Shape};
+use trial::solver::calendar::WEEK;
 use trial::solver::calls::{open, Opened};
-use trial::write::hex;
+use trial::write::{calendar, hex};
 
 const SMALL: Shape = Shape { atoms: (0, 4), rules: (0, 6), negations: 4, literals: 3 };
 const MIDDLE: Shape = Shape { atoms: (3, 7), rules: (3, 16), negations: 6, literals: 4 };
+const MANY: Shape = Shape { atoms: (1, 4), rules: (30, 64), negations: 3, literals: 4 };
 
 /// Runs the requests through the program and compares line by line; `tail` follows them and is to print nothing.
 /// Answers how often each refusal came (0: accepted).
-fn compare(requests: &[Request], tail: &[u8], piece: usize, context: &str) -> [usize; 11] {
+fn compare(requests: &[Request], tail: &[u8], piece: usize, context: &str) -> [usize; 13] {
     let mut input: Vec<u8> = requests.iter().flat_map(Request::bytes).collect();
     input.extend(tail);
     let printed = String::from_utf8(output("calls", input, piece)).expect("calls prints text");
     let mut lines = printed.split_terminator('\n');
-    let mut numbers = [0; 11];
+    let mut numbers = [0; 13];
     for request in requests {
         let line = request.line();
-        let shown = || format!("{context}; {request:?}; sheet {}", hex(&request.sheet));
+        let bytes = || format!("sheet {}, companion {}", hex(&request.sheet), hex(&request.companion));
+        let shown = || format!("{context}; {request:?}; {}", bytes());
         assert_eq!(lines.next(), Some(line.to_string().as_str()), "{}", shown());
         numbers[line.numbers[0] as usize] += 1;
     }
@@ -36,7 +40,7 @@ fn random_bytes(random: &mut Random) -> Vec<u8> {
     if random.chance(4) {
         return too_many_negations(random);
     }
-    let shape = random.pick(&[SMALL, SMALL, MIDDLE]);
+    let shape = random.pick(&[SMALL, SMALL, MIDDLE, MIDDLE, MANY]);
     let sheet = random_sheet(random, &shape);
     if random.chance(25) {
         damaged(random, &sheet)
@@ -57,7 +61,7 @@ fn argument(random: &mut Random, bound: usize) -> u32 {
     }
 }
 
-/// A companion, which every call passes over: mostly short, sometimes of any length or the longest.
+/// A companion that is passed over: mostly short, sometimes of any length or the longest.
 fn companion(random: &mut Random) -> Vec<u8> {
     let length = match random.below(40) {
         0 => MOST_COMPANION,
@@ -65,6 +69,18 @@ fn companion(random: &mut Random) -> Vec<u8> {
         _ => random.below(30),
     };
     (0..length).map(|_| random.word() as u8).collect()
+}
+
+/// A calendar for a sheet of so many rules, some of them damaged; and a minute to ask for, mostly at one of its edges.
+fn calendar_and_minute(random: &mut Random, rules: usize) -> (Vec<u8>, u32) {
+    let count = if random.chance(3) { 64 } else { random.below(8) };
+    let entries = random_entries(random, rules, count);
+    let bytes = if random.chance(20) { damaged_calendar(random, &entries, rules) } else { calendar(&entries) };
+    let minute = match random.chance(70) {
+        true => random.pick(&edges(&entries)).into(),
+        false => argument(random, WEEK),
+    };
+    (bytes, minute)
 }
 
 /// A number of cells around what an answer needs: exact, short, none, or more.
@@ -76,20 +92,30 @@ fn cells(random: &mut Random, needed: usize) -> u16 {
 fn random_request(random: &mut Random, call: u8) -> Request {
     let sheet = random_bytes(random);
     let opened = open(&sheet);
-    let [atoms, _, negations] = opened.as_ref().map_or([3, 0, 3], Opened::check);
-    let argument = match call {
-        CHECK | LIST => 0,
-        QUERY => argument(random, atoms),
-        _ => argument(random, 1 << negations),
-    };
-    let needed = match (call, &opened) {
-        (BELIEF_SETS, Ok(opened)) if argument < 1 << negations => opened.sets_of(argument as u16).len(),
-        (LIST, Ok(opened)) => 4 * opened.listing().views.len(),
-        _ => random.below(4),
+    let [atoms, rules, negations] = opened.as_ref().map_or([3, 2, 3], Opened::check);
+    let (companion, argument) = match call {
+        LIST_AT | CHANGES => calendar_and_minute(random, rules),
+        CHECK | LIST => (companion(random), 0),
+        QUERY => (companion(random), argument(random, atoms)),
+        _ => (companion(random), argument(random, 1 << negations)),
     };
     let masks = [random.word() as u16, random.word() as u16];
-    let (companion, cells, first) = (companion(random), cells(random, needed), random.word() as u16);
-    Request { call, sheet, argument, masks, companion, cells, first }
+    let mut request = Request { call, sheet, argument, masks, companion, cells: 0, first: random.word() as u16 };
+    let needed = opened.ok().and_then(|opened| needed(&request, &opened)).unwrap_or_else(|| random.below(4));
+    request.cells = cells(random, needed);
+    request
+}
+
+/// How many cells the answer of a call fills that takes cells and is not refused.
+fn needed(request: &Request, opened: &Opened) -> Option<usize> {
+    let Request { call, argument, companion, .. } = request;
+    match *call {
+        BELIEF_SETS if *argument < 1 << opened.check()[2] => Some(opened.sets_of(*argument as u16).len()),
+        LIST => Some(4 * opened.listing().views.len()),
+        LIST_AT => opened.listing_at(companion, *argument).ok().map(|listing| 4 * listing.views.len()),
+        CHANGES => opened.calendar(companion).ok().map(|calendar| calendar.changes().len()),
+        _ => None,
+    }
 }
 
 /// 3,200 random requests of one call, in three streams; each refusal that the call has must occur.
@@ -97,7 +123,7 @@ fn many(call: u8, refusals: &[usize]) {
     let seed = seed();
     let mut random = Random::new(seed, 100 + u64::from(call));
     let context = format!("seed {seed}");
-    let mut numbers = [0; 11];
+    let mut numbers = [0; 13];
     for count in [100, 1_500, 1_600] {
         let requests: Vec<Request> = (0..count).map(|_| random_request(&mut random, call)).collect();
         let some = compare(&requests, &[], 1 << 16, &context);
@@ -117,6 +143,8 @@ fn random_requests() {
     many(BELIEF_SETS, &[1, 2, 3, 4, 5, 6, 7, 8, 9]);
     many(LIST, &[1, 2, 3, 4, 5, 6, 7, 9]);
     many(QUERY, &[1, 2, 3, 4, 5, 6, 7, 10]);
+    many(LIST_AT, &[1, 2, 3, 4, 5, 6, 7, 9, 11, 12]);
+    many(CHANGES, &[1, 2, 3, 4, 5, 6, 7, 9, 11]);
 }
 
 /// All calls mixed, the requests arriving by few bytes.
@@ -125,15 +153,16 @@ fn requests_in_small_pieces() {
     let seed = seed();
     let mut random = Random::new(seed, 110);
     for piece in [1, 2, 3, 5, 7, 64] {
-        let requests: Vec<Request> = (0..60).map(|i| random_request(&mut random, i % 5)).collect();
+        let requests: Vec<Request> = (0..60).map(|i| random_request(&mut random, i % 7)).collect();
         compare(&requests, &[], piece, &format!("seed {seed}, pieces of {piece}"));
     }
 }
 
-/// Each call on the kiln sheet, with a companion.
+/// Each call on the kiln sheet, with a companion, which is a calendar: all are accepted.
 fn kiln_requests() -> Vec<Request> {
-    let request = Request { sheet: kiln(), masks: [1, 2], companion: vec![3, 0, 4], cells: 5, ..Request::default() };
-    (0..5).map(|call| Request { call, ..request.clone() }).collect()
+    let companion = calendar(&[(1, 100, 200)]);
+    let request = Request { sheet: kiln(), masks: [1, 2], companion, cells: 5, ..Request::default() };
+    (0..=CHANGES).map(|call| Request { call, ..request.clone() }).collect()
 }
 
 /// The longest requests that are answered, 2,048 bytes of a sheet, 12,288 of a companion and 33,000 cells, which 32,768
@@ -155,18 +184,20 @@ fn the_largest_requests() {
     let by_hand: String = (5..33_003).map(|cell| format!(" {cell}")).collect();
     assert_eq!(requests[3].line().to_string(), format!("2 0 2 : 1 2{by_hand}"));
     requests.push(request(&long, MOST_CELLS));
+    requests.push(Request { call: CHANGES, companion: vec![0; MOST_COMPANION], ..request(&kiln(), MOST_CELLS) });
     requests.extend(kiln_requests());
     let numbers = compare(&requests, &[], 4_096, "the largest requests");
-    assert_eq!([numbers[0], numbers[9], numbers[6]], [3 + 5, 1, 1]);
+    assert_eq!([numbers[0], numbers[9], numbers[6]], [3 + 7, 1, 2]);
 }
 
 /// "A request that is cut off .. ends the program": nothing is printed for it.
 #[test]
 fn requests_cut_off() {
     let requests = kiln_requests();
-    let last = requests[3].bytes();
-    for length in 0..last.len() {
-        compare(&requests[..2], &last[..length], 1 << 16, "a request cut off");
+    for last in [LIST, LIST_AT].map(|call| requests[usize::from(call)].bytes()) {
+        for length in 0..last.len() {
+            compare(&requests[..2], &last[..length], 1 << 16, "a request cut off");
+        }
     }
 }
 
@@ -186,7 +217,7 @@ fn requests_beyond_the_limits() {
         companion(65_535),
         cells(MOST_CELLS + 1),
         cells(65_535),
-        call(QUERY + 1),
+        call(CHANGES + 1),
         call(255),
     ];
     for request in bad {

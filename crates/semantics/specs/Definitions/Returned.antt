@@ -6,8 +6,8 @@ use lib.Dec.{leb}
 use lib.ListN.{length, drop}
 use Rattle.semantics.specs.Definitions.Reading.{Reading, field, refused}
 
--- What a call returns: its values where it is accepted, or the refusal's number and place (a place in the sheet, or the other number that
--- the table "Returned" gives).
+-- What a call returns: its values where it is accepted, or the refusal's number and place (a place in the sheet or the calendar, or the other
+-- number that the table "Returned" gives).
 pub data Returned (A : Type 0) : Type 0 where
   accepted : (values : A) → Returned A
   refusal : (number place : ℕ) → Returned A
@@ -27,7 +27,7 @@ abbrev pub _and-then_ : {A B : Type 0} → Returned A → (A → Returned B) →
 abbrev pub answer : {A B : Type 0} → (A → B) → Returned A → Returned B
 answer of r = r and-then λ values. accepted (of values)
 
--- values that need so many words, once all else is judged: "9, number of sets or views" where there are fewer
+-- values that need so many words, once all else is judged: "9, number of sets or views" (of minutes: Calendar.antt) where there are fewer
 abbrev pub limited : {A : Type 0} → (needed words number : ℕ) → A → Returned A
 limited needed words number values = cond (leb needed words) (accepted values) (refusal 9 number)
 

@@ -11,7 +11,7 @@ use Rattle.semantics.specs.Definitions.Sheet.{longestSheet, countAt, nam
 use Rattle.semantics.specs.Definitions.Reduct.{reductRule, reduct}
 use Rattle.semantics.specs.Definitions.Setting.{Setting, k}
 use Rattle.semantics.specs.Definitions.Check.{opened, ofSheet, check}
-use Rattle.semantics.specs.Definitions.Returned.{accepted, answer, afterwards}
+use Rattle.semantics.specs.Definitions.Returned.{accepted, read, answer, afterwards}
 use Rattle.semantics.specs.Definitions.Stable.{reductAt, smallerModel, stable, stableSets}
 use Rattle.semantics.specs.Definitions.Verdict.{beliefSets, guessFound, verdict}
 use Rattle.semantics.specs.Definitions.Calls.{forGuess, forAtom, verdictCall, beliefSetsCall, listCall, queryCall}
@@ -21,7 +21,9 @@ use Rattle.semantics.specs.Definitions.Listing.{View, Tally, isWorldView
 use Rattle.semantics.specs.Definitions.Query.{answerBy}
 use Rattle.semantics.specs.Definitions.Desk.{deskCall, deskNumber, deskBytes}
 use Rattle.semantics.specs.Definitions.Program.{digits, namesOf, printed}
+use Rattle.semantics.specs.Definitions.Calendar.{entryAt, calendarOf, openAt, inForce, ofMinute}
 use Rattle.semantics.specs.Walk.{walk}
+use Rattle.semantics.specs.Theorems.CalendarPlaces.{longestCalendar}
 use Rattle.semantics.specs.Examples.Sheets.{Listed, zeros, ten, kiln, sheet-6}
 use Rattle.semantics.specs.Examples.Own.{own}
 use Rattle.semantics.specs.Examples.Limits.{longest, answers}
@@ -30,6 +32,9 @@ use Rattle.semantics.specs.Examples.Guesses.{verdicts, sets}
 use Rattle.semantics.specs.Examples.Listings.{listings, deskCalls}
 use Rattle.semantics.specs.Examples.Queries.{queries}
 use Rattle.semantics.specs.Examples.Texts.{texts}
+use Rattle.semantics.specs.Examples.Calendars.{longestHours, calendars, openings, forces}
+use Rattle.semantics.specs.Examples.Minutes.{minuteListings}
+use Rattle.semantics.specs.Examples.Changed.{Changed, changed, LongestChanged, longest-changed}
 
 -- the list of a setting by the definitions, and by the walk along the order
 abbrev listed : Setting → List View × Tally
@@ -65,9 +70,18 @@ pub record Computed : Type 0 where
   -- limit cases of the sheet, and how long the longest is
   pub limits : map (λ p. check (p .0)) answers ≡ map (λ p. p .1) answers
   pub longest-bytes : length longest ≡ longestSheet
+  -- document 02, K1: calendars as they are read, entries that hold, rules in force
+  pub calendars-read : map (λ p. read (calendarOf (p .0) (p .1))) calendars ≡ map (λ p. p .2) calendars
+  pub longest-calendar : length longestHours ≡ longestCalendar
+  pub open-or-not : map (λ p. openAt (p .0) (p .1) (p .2)) openings ≡ map (λ p. p .3) openings
+  pub in-force-or-not : map (λ p. inForce (p .0) (p .1) (p .2)) forces ≡ map (λ p. p .3) forces
+  -- what the listing at a minute returns, and what the minutes of change are
+  pub minute-listings-returned : map (λ p. listCall (ofMinute (p .0) (p .1) (p .2)) (p .3)) minuteListings ≡ map (λ p. p .4) minuteListings
+  pub changes-returned : Changed
+  pub longest-changes : LongestChanged
 
 pub computed : Computed
-unfolding ℕ-discrete ones onesIn every some keep flat upTo downFrom sameList setOf zeros times countAt nameByteAt nameAt maskAt ruleAt sections opened ofSheet check reductRule reduct reductAt smallerModel stable stableSets beliefSets guessFound verdict forGuess verdictCall beliefSetsCall steps contradicted order isWorldView covered tallyOf viewsAlong walk forAtom queryCall answerBy digits namesOf printed
+unfolding ℕ-discrete ones onesIn every some keep flat upTo downFrom sameList setOf zeros times countAt nameByteAt nameAt maskAt ruleAt sections opened ofSheet check reductRule reduct reductAt smallerModel stable stableSets beliefSets guessFound verdict forGuess verdictCall beliefSetsCall steps contradicted order isWorldView covered tallyOf viewsAlong walk forAtom queryCall answerBy digits namesOf printed entryAt calendarOf inForce ofMinute
 computed = record {
   checks = refl;
   lists = refl;
@@ -83,4 +97,11 @@ computed = record {
   texts-printed = refl;
   limits = refl;
   longest-bytes = refl;
+  calendars-read = refl;
+  longest-calendar = refl;
+  open-or-not = refl;
+  in-force-or-not = refl;
+  minute-listings-returned = refl;
+  changes-returned = changed;
+  longest-changes = longest-changed;
 }

@@ -7,7 +7,7 @@ use Rattle.semantics.specs.Definitions.Listing.{Tally, tallied, View}
 use Rattle.semantics.specs.Definitions.Calls.{Result}
 use Rattle.semantics.specs.Examples.Sheets.{zeros, a, sheet, rule, view, kiln, sheet-3, sheet-6}
 
-abbrev result : Tally → List View → Result
+abbrev pub result : Tally → List View → Result
 result t vs = record { tally = t; views = vs }
 
 -- a sheet, the number of words lent, and the result

@@ -1,14 +1,14 @@
 -- The atoms that stand under K or "not K", and under M or "not M": k is how many they are together. Assumes nothing.
 use Prim.Native.Nat.{ℕ, _+_, _^_, _<_}
-use mathlib.Core.Path.{_≡_, refl, subst}
-use mathlib.Core.List.{List, [], _∷_, map, List·Memᴰ·eq-of-singleton}
+use mathlib.Core.Path.{_≡_, refl, sym, ap, _∙_, subst}
+use mathlib.Core.List.{List, [], _∷_, _++_, map, foldl, foldl-append, List·Memᴰ·eq-of-singleton}
 use mathlib.Core.Logic.{_↔_, _⊎_, inl, inr, ⊎-elim}
 use native.Mathlib.Omega.{arith}
 use lib.ListN.{length, getD}
 use Rattle.sets.specs.Decides.{dec-one, dec-iff}
-use Rattle.sets.specs.Lists.{_among_, here, later, first-or-later, keep, upTo, among-map, among-flat}
+use Rattle.sets.specs.Lists.{_among_, here, later, first-or-later, keep, upTo, among-map, among-flat, flat-snoc}
 use Rattle.sets.specs.Counting.{length-both}
-use Rattle.sets.specs.Sets.{_∈_, AllBelow, _∈?_, ⋃, size}
+use Rattle.sets.specs.Sets.{_∈_, AllBelow, _∈?_, _∪_, ⋃, size}
 use Rattle.sets.specs.Members.{dec-∈, ∈-below, ∈-⋃, below-power, getD-below}
 use Rattle.sets.specs.Size.{members, size-members}
 use Rattle.semantics.specs.Definitions.Rules.{Subjective, K, notK, M, notM, maskNumber}
@@ -17,6 +17,11 @@ use Rattle.semantics.specs.Definitions.Guesses.{mentioned, not-known, ma
 use Rattle.semantics.specs.Definitions.Setting.{settingOf, k}
 use Rattle.semantics.specs.Fields.{masksOf, kAtoms, mAtoms}
 use Rattle.semantics.specs.Theorems.Negations.{dec-mentioned}
+
+-- the masks of one rule more
+pub masks-more : (z m m′ : ℕ) (rs : List (List ℕ)) (r : List ℕ)
+    → foldl _∪_ (foldl _∪_ z (masksOf m m′ rs)) (getD r m 0 ∷ getD r m′ 0 ∷ []) ≡ foldl _∪_ z (masksOf m m′ (rs ++ r ∷ []))
+masks-more z m m′ rs r = sym (ap (foldl _∪_ z) (flat-snoc (λ r. getD r m 0 ∷ getD r m′ 0 ∷ []) rs r) ∙ foldl-append _∪_ z (masksOf m m′ rs) (getD r m 0 ∷ getD r m′ 0 ∷ []))
 
 -- "some rule has a in mask" m or m′
 abbrev InMasks : (m m′ : ℕ) → List (List ℕ) → ℕ → Type 0

@@ -1,4 +1,4 @@
-//! Requests of every call, each line written by hand from document 01.
+//! Requests of the calls of document 01, each line written by hand.
 
 use super::sheets::{put, GOOD};
 use super::Case;
@@ -26,7 +26,8 @@ fn refused() -> Vec<Case> {
     ]
 }
 
-fn case(line: &str, call: u8, sheet: Vec<u8>, argument: u32, cells: u16, first: u16) -> Case {
+/// A request, and its whole line.
+pub fn case(line: &str, call: u8, sheet: Vec<u8>, argument: u32, cells: u16, first: u16) -> Case {
     let request = Request { call, sheet, argument, cells, first, ..Request::default() };
     Case { title: format!("by hand, {line}"), request, by_hand: Some(line.to_string()) }
 }
@@ -41,7 +42,7 @@ fn answered(row: &str) -> Case {
     case(line, call, sheet, argument.parse().expect(row), word(cells), word(first))
 }
 
-/// The lines of the kiln sheet with masks and a companion, which no call takes yet.
+/// The lines of the kiln sheet with masks and a companion, which these calls don't take.
 fn passed_over() -> Vec<Case> {
     let lines = ["0 0 2 2 1 : 5", "1 0 2 1 1 1 : 5", "2 0 1 : 1", "3 9 1 : 5", "4 0 0 : 5"];
     let mut cases: Vec<Case> = (0..).zip(lines).map(|(call, line)| case(line, call, kiln(), 0, 1, 5)).collect();

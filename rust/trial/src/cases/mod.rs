@@ -1,9 +1,11 @@
 //! The cases that `crates/calls` stores: requests, each with the line that is owed for it. Many answers are written by
-//! hand from document 01; the second solver must agree with them, and gives the lines.
+//! hand from documents 01 and 02; the second solver must agree with them, and gives the lines.
 
+mod calendar;
 mod check;
 pub mod guesses;
 mod hand;
+mod hours;
 mod listed;
 mod lists;
 pub mod sheets;
@@ -11,7 +13,7 @@ pub mod small;
 pub mod twelve;
 
 use crate::known::kiln;
-use crate::request::{Request, CHECK, QUERY};
+use crate::request::{Request, CHANGES, CHECK};
 use crate::solver::calls::{open, Opened};
 use crate::solver::refusal::Refusal;
 use std::collections::HashSet;
@@ -71,6 +73,12 @@ impl Case {
         Case { title: title.to_string(), request, by_hand: None }
     }
 
+    /// With a calendar beside the sheet.
+    fn beside(mut self, calendar: &[u8]) -> Case {
+        self.request.companion = calendar.to_vec();
+        self
+    }
+
     /// With what follows the call in its line by hand.
     fn owing(self, by_hand: &str) -> Case {
         Case { by_hand: Some(format!("{} {by_hand}", self.request.call)), ..self }
@@ -93,14 +101,13 @@ impl Case {
 
 /// Every case, some requests more than once.
 fn all() -> impl Iterator<Item = Case> {
-    [hand::cases(), check::cases(), small::cases(), guesses::cases(), lists::cases(), twelve::cases()]
-        .into_iter()
-        .flatten()
+    let of_sheets = [hand::cases(), check::cases(), small::cases(), guesses::cases(), lists::cases(), twelve::cases()];
+    of_sheets.into_iter().chain([calendar::cases(), hours::cases()]).flatten()
 }
 
 /// An unknown call ends the program, though a request follows: nothing is printed. This comes last.
 fn ending() -> Owed {
-    let unknown = Request { call: QUERY + 1, sheet: kiln(), ..Request::default() };
+    let unknown = Request { call: CHANGES + 1, sheet: kiln(), ..Request::default() };
     let known = Request { call: CHECK, ..unknown.clone() };
     let title = "an unknown call and another request".to_string();
     Owed { title, request: [unknown.bytes(), known.bytes()].concat(), line: String::new() }

@@ -1,5 +1,6 @@
-//! The calls of document 01, with their refusals and what they leave in lent buffers.
+//! The calls of document 01 and of K1 of document 02, with their refusals and what they leave in lent buffers.
 
+use super::calendar::{self, Calendar, WEEK};
 use super::guess::Guess;
 use super::listing::{Listing, Program, Verdict};
 use super::refusal::Refusal;
@@ -63,9 +64,35 @@ impl Opened {
 
     /// The six counts, and the records written into `out`; refusal 9.
     pub fn list(&self, out: &mut [u16]) -> Result<[u16; 6], Refusal> {
-        let listing = self.listing();
-        write(&records(listing), listing.views.len(), out)?;
-        Ok(listing.counts)
+        written(self.listing(), out)
+    }
+
+    /// The list at a minute, "of the sheet with only the rules in force"; the calendar's refusals, 12 and 9.
+    pub fn list_at(&self, calendar: &[u8], minute: u32, out: &mut [u16]) -> Result<[u16; 6], Refusal> {
+        written(&self.listing_at(calendar, minute)?, out)
+    }
+
+    /// The world views and the six counts at a minute; the calendar's refusals and 12.
+    pub fn listing_at(&self, calendar: &[u8], minute: u32) -> Result<Listing, Refusal> {
+        let calendar = self.calendar(calendar)?;
+        let minute = minute as usize;
+        if minute >= WEEK {
+            return Err(Refusal::new(12, 0));
+        }
+        let rules = calendar.in_force(&self.program.rules, minute);
+        Ok(Program::new(self.program.atoms, rules).listing())
+    }
+
+    /// How many minutes of change a calendar has, and those written into `out`; its refusals and 9.
+    pub fn changes(&self, calendar: &[u8], out: &mut [u16]) -> Result<usize, Refusal> {
+        let minutes = self.calendar(calendar)?.changes();
+        write(&minutes, minutes.len(), out)?;
+        Ok(minutes.len())
+    }
+
+    /// What a calendar beside this sheet says; refusals 1, 2, 6 and 11.
+    pub fn calendar(&self, bytes: &[u8]) -> Result<Calendar, Refusal> {
+        calendar::read(bytes, self.program.rules.len())
     }
 
     /// The desk call: counts and records as byte pairs; refusal 9.
@@ -111,6 +138,12 @@ impl Opened {
 pub fn list_code(opened: &Result<Opened, Refusal>, out: &mut [u8]) -> u32 {
     let answer = opened.as_ref().map_err(|&refusal| refusal).and_then(|opened| opened.list_bytes(out));
     answer.map_or_else(Refusal::code, |()| 0)
+}
+
+/// The counts of a listing, and its records written into `out`; refusal 9.
+fn written(listing: &Listing, out: &mut [u16]) -> Result<[u16; 6], Refusal> {
+    write(&records(listing), listing.views.len(), out)?;
+    Ok(listing.counts)
 }
 
 fn records(listing: &Listing) -> Vec<u16> {

@@ -48,8 +48,12 @@ pub struct Listing {
 
 impl Program {
     pub fn of(sheet: &Sheet) -> Self {
-        let rules = sheet.rules.clone();
-        Program { atoms: sheet.names.len(), negations: negations(&rules), rules }
+        Program::new(sheet.names.len(), sheet.rules.clone())
+    }
+
+    /// Rules over so many atoms; the negations are numbered from these.
+    pub fn new(atoms: usize, rules: Vec<Rule>) -> Self {
+        Program { atoms, negations: negations(&rules), rules }
     }
 
     /// W: the stable sets of the reduct.

@@ -1,12 +1,15 @@
-//! The second solver: every call of document 01, from its definitions.
+//! The second solver: every call of document 01 and of K1 of document 02, from their definitions.
 //!
 //! Stable sets come from a branching search with propagation, minimality from a second search for a smaller model;
 //! every guess is judged by itself, and world views are the verified guesses that are maximal among all verified ones.
+//! A calendar is walked through the week minute by minute.
 
+pub mod calendar;
 pub mod calls;
 pub mod guess;
 pub mod lines;
 pub mod listing;
+mod reader;
 pub mod refusal;
 pub mod ruling;
 pub mod search;

@@ -1,4 +1,4 @@
-//! A refusal of document 01, and the one number that the desk call returns for it.
+//! A refusal, and the one number that the desk call returns for it.
 
 /// A refusal's number and its place.
 #[derive(Clone, Copy, Debug, PartialEq, Eq)]
@@ -8,7 +8,7 @@ pub struct Refusal {
 }
 
 impl Refusal {
-    /// Refusal `number` at an offset of the sheet, or with a count in its place.
+    /// Refusal `number` at an offset of the sheet or the calendar, or with a count in its place.
     pub fn new(number: u32, place: usize) -> Self {
         let place = u32::try_from(place).expect("a place fits 32 bits");
         Refusal { number, place }

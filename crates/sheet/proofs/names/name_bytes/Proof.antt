@@ -15,7 +15,7 @@ use Rattle.semantics.specs.Definitions.Sheet.{byteAt, nameByte, nameByteAt}
 use Rattle.semantics.specs.Fields.{bytesFrom}
 use Rattle.semantics.specs.Theorems.Fields.{bytesFrom-more}
 use Rattle.sheet.specs.Steps.{fieldOf, moved}
-use Rattle.sheet.proofs.Laws.{starts, goes-on, stops, is-done}
+use Rattle.semantics.specs.Theorems.Turns.{starts, goes-on, stops, is-done}
 use Rattle.sheet.proofs.names.name_bytes.Statement.{statement}
 use Rattle.sheet.proofs.names.name_bytes.Tie as tie
 

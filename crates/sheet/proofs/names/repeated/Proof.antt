@@ -7,7 +7,7 @@ use Prim.Native.Nat.{ℕ, _+_, _-_, _≤_, _<_}
 use Rattle.sets.specs.Lists.{some, sameList}
 use Rattle.semantics.specs.Fields.{nameFrom, afterName, namesFrom, afterNames}
 use Rattle.semantics.specs.Theorems.Fields.{afterNames-rises}
-use Rattle.sheet.proofs.Laws.{one-left}
+use Rattle.semantics.specs.Theorems.Turns.{one-left}
 use Rattle.sheet.proofs.names.repeated.Statement.{statement}
 use Rattle.sheet.proofs.names.repeated.Tie as tie
 

@@ -1,30 +1,24 @@
 -- `sheet::rules::rules` meets its contract. Assumes nothing.
 use borrow.Author.Needs.{needs}
-use lib.ListN.{getD}
-use mathlib.Core.List.{List, [], _∷_, _++_, foldl, foldl-append}
-use mathlib.Core.Path.{_≡_, refl, sym, ap, ap₂, _∙_}
+use mathlib.Core.List.{List, [], _∷_, _++_}
+use mathlib.Core.Path.{_≡_, refl, ap, ap₂}
 use native.Mathlib.Omega.{arith}
 use Prim.Native.Nat.{ℕ, suc, _+_, _-_, _*_}
-use Rattle.sets.specs.Lists.{flat, flat-snoc, upTo}
-use Rattle.sets.specs.Sets.{_∪_}
+use Rattle.sets.specs.Lists.{flat, upTo}
 use Rattle.semantics.specs.Definitions.Reading.{field}
 use Rattle.semantics.specs.Definitions.Sheet.{ruleAt}
-use Rattle.semantics.specs.Fields.{rulesFrom, masksOf}
+use Rattle.semantics.specs.Fields.{rulesFrom}
 use Rattle.semantics.specs.Theorems.Fields.{rulesFrom-more, rule-field}
+use Rattle.semantics.specs.Theorems.Subjects.{masks-more}
 use Rattle.sheet.specs.declared.steps.Cursor.{Cursor}
 use Rattle.sheet.specs.Steps.{moved, withSets, noted}
 use Rattle.sheet.proofs.Loops.{Loop, Reached, entered, turned, refuses, finished}
 use Rattle.sheet.proofs.rules.rules.Statement.{statement}
 use Rattle.sheet.proofs.rules.rules.Tie as tie
 
--- the masks of one rule more
-union-more : (z m m′ : ℕ) (rs : List (List ℕ)) (r : List ℕ)
-    → foldl _∪_ (foldl _∪_ z (masksOf m m′ rs)) (getD r m 0 ∷ getD r m′ 0 ∷ []) ≡ foldl _∪_ z (masksOf m m′ (rs ++ r ∷ []))
-union-more z m m′ rs r = sym (ap (foldl _∪_ z) (flat-snoc (λ r. getD r m 0 ∷ getD r m′ 0 ∷ []) rs r) ∙ foldl-append _∪_ z (masksOf m m′ rs) (getD r m 0 ∷ getD r m′ 0 ∷ []))
-
 noted-more : (c : Cursor) (rs : List (List ℕ)) (r : List ℕ) → noted (noted c rs) (r ∷ []) ≡ noted c (rs ++ r ∷ [])
 unfolding flat
-noted-more c rs r = ap₂ (withSets c) (union-more (c .«k_atoms») 4 5 rs r) (union-more (c .«m_atoms») 6 7 rs r)
+noted-more c rs r = ap₂ (withSets c) (masks-more (c .«k_atoms») 4 5 rs r) (masks-more (c .«m_atoms») 6 7 rs r)
 
 module _ (s : List ℕ) (first : Cursor) where
   abbrev cursor : ℕ → Cursor

@@ -1,0 +1,170 @@
+-- A sheet that is opened and then its calendar, and the rules in force that are loaded: the source at a minute. Assumes nothing.
+use Prim.Native.Nat.{ℕ, _*_, _≤_, _<_}
+use mathlib.Core.Path.{_≡_, refl, sym, ap, ap₂, _∙_, subst}
+use mathlib.Core.List.{List, [], map}
+use mathlib.Core.Logic.{inl, inr}
+use native.Mathlib.Omega.{arith}
+use lib.ListN.{length, getD, length-map}
+use Rattle.sets.specs.Decides.{dec-one, dec-iff, dec-self}
+use Rattle.sets.specs.Lists.{upTo, among-upTo, length-upTo, map-keep-same}
+use Rattle.sets.specs.Sets.{_∈?_, AllBelow}
+use Rattle.sets.specs.Members.{dec-∈}
+use Rattle.semantics.specs.Definitions.Sheet.{Sheet, atoms, ruleOfMasks, mostAtoms, mostRules}
+use Rattle.semantics.specs.Definitions.Setting.{settingOf, k}
+use Rattle.semantics.specs.Definitions.Check.{mostNegations, setting, opened}
+use Rattle.semantics.specs.Definitions.Calendar.{Entry, lastMinute, mostEntries, calendarOf, inForce, atMinute, rulesInForce, minutesOfChange, ofMinute, changesCall}
+use Rattle.semantics.specs.Definitions.Returned.{accepted, refusal}
+use Rattle.semantics.specs.Words.{programRoom, rulesIn}
+use Rattle.semantics.specs.Theorems.Accepted.{accepted-read}
+use Rattle.semantics.specs.Theorems.Returned.{fits-limited, short-limited}
+use Rattle.semantics.specs.Theorems.CalendarExact.{calendar-read}
+use Rattle.semantics.specs.Theorems.InForce.{AllProper, ∈-rulesInForce}
+use Rattle.semantics.specs.Theorems.Minute.{minute-fits}
+use Rattle.semantics.specs.Theorems.CalendarCalls.{Both, TurnedAway, minute-given, minute-refused, changes-given}
+use Rattle.sheet.specs.declared.Contents.{Contents}
+use Rattle.sheet.specs.declared.Opened.the-variants as answers
+use Rattle.sheet.specs.Opened.{contents, openedOf, opened-as, opened-refused}
+use Rattle.sheet.specs.Fetched.{RulesBegin}
+use Rattle.sheet.specs.Loaded.{LoadsOnly}
+use Rattle.calendar.specs.declared.entries.Step.{Step}
+use Rattle.calendar.specs.declared.entries.Step.the-variants as steps
+use Rattle.calendar.specs.Entries.{entriesIn, Entries}
+use Rattle.calendar.specs.Steps.{ReadInto, was-field, was-refused}
+use Rattle.guess.specs.declared.outline.Outline.{Outline}
+use Rattle.guess.specs.Programs.{settingIn, WithinLimits, Outlines}
+use Rattle.engine.specs.declared.source.Source.the-variants.{Accepted, Refused}
+use Rattle.engine.specs.declared.minute.Scheduled.{Scheduled}
+use Rattle.engine.specs.declared.minute.Scheduled.the-variants as schedules
+use Rattle.engine.specs.Sources.{Reads, ReadsBoth}
+
+-- ---- a sheet, and then a calendar
+module _ (s c words : List ℕ) where
+  module _ {x : Contents} (opens : openedOf (opened s) ≡ answers.Accepted x) {r : Step} (reads : ReadInto (calendarOf c (x .rules)) r words) where
+    pub both-read : {n : ℕ} → r ≡ steps.Got n → ReadsBoth s c (schedules.Accepted x n) words
+    both-read told =
+        let (y, end, d, is) = opened-as (opened s) opens in
+        let (es, close, f, many) = was-field (λ es _. length es) (calendarOf c (x .rules)) (reads .0) told in
+        let of : calendarOf c (length (y .rules)) ≡ calendarOf c (x .rules) = ap (λ z. calendarOf c (z .rules)) (sym is) in
+        (y, es, record { end = end; opens = d; calendarEnd = close; reads = of ∙ f }, is, many, ap (entriesIn words) many ∙ reads .1 es close f)
+
+    pub calendar-turned-back : {number place : ℕ} → r ≡ steps.Refused number place → ReadsBoth s c (schedules.Refused number place) words
+    calendar-turned-back told =
+        let (y, end, d, is) = opened-as (opened s) opens in
+        let of : calendarOf c (length (y .rules)) ≡ calendarOf c (x .rules) = ap (λ z. calendarOf c (z .rules)) (sym is) in
+        inr (y, end, d, of ∙ was-refused (λ es _. length es) (calendarOf c (x .rules)) (reads .0) told)
+
+  pub sheet-turned-back : {number place : ℕ} → openedOf (opened s) ≡ answers.Refused number place → ReadsBoth s c (schedules.Refused number place) words
+  sheet-turned-back e = inl (opened-refused (opened s) e)
+
+-- ---- what was read of both
+module _ (s c entries : List ℕ) (r : Scheduled) (h : ReadsBoth s c r entries) where
+  pub turned-back : {number place : ℕ} → r ≡ schedules.Refused number place → TurnedAway s c number place
+  turned-back told = subst (λ z. ReadsBoth s c z entries) told h
+
+  module _ {x : Contents} {n : ℕ} (told : r ≡ schedules.Accepted x n) where
+    both : ReadsBoth s c (schedules.Accepted x n) entries
+    both = subst (λ z. ReadsBoth s c z entries) told h
+
+    pub sheet-said : Sheet
+    sheet-said = both .0
+
+    pub entries-read : List Entry
+    entries-read = both .1
+
+    pub accepts : Both s c sheet-said entries-read
+    unfolding sheet-said entries-read
+    accepts = both .2
+
+    pub is : x ≡ contents sheet-said
+    unfolding sheet-said
+    is = both .3
+
+    pub same-entries : entriesIn entries n ≡ entries-read
+    unfolding entries-read
+    same-entries = both .5
+
+    pub few-said : x .rules ≤ mostRules
+    few-said = subst (λ z. z .rules ≤ mostRules) (sym is) (accepted-read s sheet-said (accepts .end) (accepts .opens) .0 .few-rules)
+
+    pub entries-stand : 3 * mostEntries ≤ length entries → Entries (x .rules) entries n
+    unfolding entries-read
+    entries-stand room =
+        let read = calendar-read c _ entries-read (accepts .calendarEnd) (accepts .reads) in
+        let good : AllProper (x .rules) entries-read = subst (λ z. AllProper (z .rules) entries-read) (sym is) (read .all-proper) in
+        record {
+          stand = omega (arith, read .few-entries, both .4);
+          few-rules = few-said;
+          all-proper = subst (AllProper (x .rules)) (sym same-entries) good;
+        }
+
+    pub begins : RulesBegin s (x .«rules_at») (x .rules)
+    begins = (sheet-said, accepts .end, accepts .opens, ap (λ z. z .«rules_at») is, ap (λ z. z .rules) is)
+
+    -- ---- at a minute
+    module _ (minute : ℕ) where
+      pub minute-over : (words : List ℕ) → lastMinute < minute → Reads (ofMinute s c minute) (Refused 12 0) words
+      minute-over words l = minute-refused s c minute 12 0 .1 (inr (sheet-said, entries-read, accepts, l, refl, refl))
+
+      -- the rules in force were loaded
+      module _ (words : List ℕ) (set kept : ℕ) (force : set ≡ rulesInForce (entriesIn entries n) (x .rules) minute) (loads : LoadsOnly s set kept words)
+          (room : 8 * programRoom ≤ length words) where
+        left : Sheet
+        left = atMinute entries-read minute sheet-said
+
+        forced : set ≡ rulesInForce entries-read (length (sheet-said .rules)) minute
+        forced = force ∙ ap₂ (λ es m. rulesInForce es m minute) same-entries (ap (λ z. z .rules) is)
+
+        chosen : (i : ℕ) → i < length (sheet-said .rules) → (i ∈? set) ≡ inForce entries-read minute i
+        chosen i l =
+            let both = ∈-rulesInForce entries-read (length (sheet-said .rules)) minute i in
+            ap (λ z. i ∈? z) forced ∙ dec-one (dec-∈ i _) (dec-iff (λ e. both .1 (l, e), λ m. both .0 m .1) (dec-self (inForce entries-read minute i)))
+
+        rules-left : rulesIn words kept ≡ left .rules
+        unfolding left
+        rules-left =
+            loads sheet-said (accepts .end) (accepts .opens)
+            ∙ map-keep-same (λ i. i ∈? set) (inForce entries-read minute) (λ i. getD (sheet-said .rules) i []) (λ i. getD (sheet-said .rules) i [])
+            (upTo (length (sheet-said .rules))) (λ i m. (chosen i (among-upTo (length (sheet-said .rules)) .0 m), refl))
+
+        same-atoms : x .atoms ≡ atoms sheet-said
+        same-atoms = ap (λ z. z .atoms) is
+
+        few-left : kept ≤ mostRules
+        unfolding left rulesIn
+        few-left =
+            let many : length (rulesIn words kept) ≡ kept = length-map (upTo kept) _ ∙ length-upTo kept in
+            let fits = minute-fits entries-read minute sheet-said s (accepts .end) (accepts .opens) in
+            omega (arith, ap length rules-left, fits .few-rules)
+
+        means : settingOf (x .atoms) (map ruleOfMasks (rulesIn words kept)) ≡ setting left
+        unfolding left
+        means = ap₂ (λ a rules. settingOf a (map ruleOfMasks rules)) same-atoms rules-left
+
+        pub within-left : WithinLimits (x .atoms) kept words
+        unfolding left
+        within-left =
+            let fits = minute-fits entries-read minute sheet-said s (accepts .end) (accepts .opens) in
+            record {
+              few-atoms = subst (λ a. a ≤ mostAtoms) (sym same-atoms) (fits .few-names);
+              few-rules = few-left;
+              stand = omega (arith, few-left, room);
+              below = subst (AllBelow (x .atoms)) (sym rules-left) (subst (λ a. AllBelow a (left .rules)) (sym same-atoms) (fits .masks-below));
+              few-negations = subst (λ z. k z ≤ mostNegations) (sym means) (fits .few-negations);
+            }
+
+        pub minute-reads : minute ≤ lastMinute → (o : Outline) → o .atoms ≡ x .atoms → o .rules ≡ kept → Outlines o words → Reads (ofMinute s c minute) (Accepted o) words
+        unfolding left
+        minute-reads l o a m outlines =
+            let same : settingIn o words ≡ setting left = ap₂ (λ p q. settingOf p (map ruleOfMasks (rulesIn words q))) a m ∙ means in
+            (outlines, minute-given s c minute accepts l ∙ ap accepted (sym same))
+
+    -- ---- the minutes of change
+    module _ (minutes : List ℕ) (listed : minutes ≡ minutesOfChange (entriesIn entries n) (x .rules)) (room : ℕ) where
+      all-minutes : minutesOfChange entries-read (length (sheet-said .rules)) ≡ minutes
+      all-minutes = sym (listed ∙ ap₂ minutesOfChange same-entries (ap (λ z. z .rules) is))
+
+      pub minutes-returned : length minutes ≤ room → changesCall s c room ≡ accepted minutes
+      minutes-returned l = changes-given s c room accepts ∙ rw all-minutes (fits-limited (length minutes) room (length minutes) minutes l)
+
+      pub minutes-short : room < length minutes → changesCall s c room ≡ refusal 9 (length minutes)
+      minutes-short l = changes-given s c room accepts ∙ rw all-minutes (short-limited (length minutes) room (length minutes) minutes l)
