@@ -8,10 +8,11 @@ use native.Mathlib.Omega.{arith}
 use native.Mathlib.Nat.{eq-or-lt-of-le, le-of-suc-le-suc}
 use borrow.Author.Tests.{ltb-true, ltb-false}
 use lib.Dec.{ltb, eqb}
-use Rattle.sets.specs.Decides.{dec-eq}
+use Rattle.sets.specs.Decides.{is-true}
 use Rattle.sets.specs.Lists.{_among_, nowhere, first-or-later, keep, only, keep-snoc, upTo}
 use Rattle.semantics.specs.Definitions.Calendar.{Entry, lastMinute, earlier, rulesInForce, changesAt, minutesOfChange}
 use Rattle.semantics.specs.Theorems.InForce.{AllProper, NoEnd, no-change}
+use Rattle.semantics.specs.Theorems.Changes.{dec-changes, minute-listed, unchanged}
 use Rattle.calendar.specs.Next.{nearerTo, withEnds, nextOf}
 
 -- ---- the next minute at which an entry begins or ends
@@ -95,19 +96,9 @@ module _ (minute : ℕ) (es : List Entry) (real : minute ≤ lastMinute) where
         (eq-or-lt-of-le (le-of-suc-le-suc l))
 
     force-stays : (b : ℕ) → minute ≤ b → b < nextOf minute es → rulesInForce es rules b ≡ rulesInForce es rules minute
-    force-stays zero l h = ap (rulesInForce es rules) (omega arith)
-    force-stays (suc b) l h =
-        ⊎-elim
-        (λ same. ap (rulesInForce es rules) (sym same))
-        (λ later. same-set (still (suc b) later h) ∙ force-stays b (omega arith) (omega arith))
-        (eq-or-lt-of-le l)
-      where
-        same-set : changesAt es rules (suc b) ≡ false → rulesInForce es rules (suc b) ≡ rulesInForce es rules b
-        same-set e = go (eqb (rulesInForce es rules (suc b)) (rulesInForce es rules b)) refl e
-          where
-            go : (t : Bool) → eqb (rulesInForce es rules (suc b)) (rulesInForce es rules b) ≡ t → not t ≡ false → rulesInForce es rules (suc b) ≡ rulesInForce es rules b
-            go true d f = dec-eq _ _ .yes d
-            go false d f = absurd (true≢false f)
+    force-stays b l h =
+        sym (unchanged es rules minute b l (omega (arith, next-most)) (λ c after within m.
+        true≢false (sym (is-true (dec-changes es rules c) (minute-listed es rules c .0 m .1)) ∙ still c after (omega arith))))
 
     -- just before the next minute
     force-before : (b : ℕ) → minute < b → b ≤ nextOf minute es → rulesInForce es rules minute ≡ rulesInForce es rules (earlier b)

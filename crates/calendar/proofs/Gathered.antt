@@ -1,14 +1,14 @@
 -- The rules in force, as the loops over rules and entries gather them. Assumes nothing.
 use Prim.Native.Nat.{ℕ, _<_}
 use mathlib.Core.Path.{_≡_, refl, sym, ap, _∙_, subst}
-use mathlib.Core.Bool.{Bool, true, false, not, cond, true≢false}
+use mathlib.Core.Bool.{Bool, true, false, not, cond}
 use mathlib.Core.List.{List, [], _∷_}
 use mathlib.Core.Logic.{_↔_, _⊎_, inl, inr, ⊎-elim}
 use native.Mathlib.Omega.{arith}
 use Rattle.sets.specs.Decides.{Decides, is-true, dec-iff}
 use Rattle.sets.specs.Lists.{_among_, here, later, nowhere, first-or-later, null, dec-member}
 use Rattle.sets.specs.Sets.{_∈_, _∪_, ∅, single}
-use Rattle.sets.specs.Members.{∈-∅, ∈-∪, ∈-single, ∈-setOf, ∈-ext}
+use Rattle.sets.specs.Members.{∈-∪, ∈-cond, ∈-setOf, ∈-ext}
 use Rattle.semantics.specs.Definitions.Calendar.{Entry, holds, entriesOf, rulesInForce}
 use Rattle.semantics.specs.Theorems.InForce.{AllProper, among-entriesOf, dec-in-force, ∈-rulesInForce}
 use Rattle.calendar.specs.Entries.{Numbered, Entries}
@@ -33,13 +33,9 @@ dec-restricted es rule =
 ∈-with : (b : Bool) (a rule set : ℕ) → a ∈ cond b (single rule) ∅ ∪ set ↔ (((b ≡ true) × (a ≡ rule)) ⊎ (a ∈ set))
 ∈-with b a rule set =
     let both = ∈-∪ a (cond b (single rule) ∅) set in (
-      λ m. ⊎-elim (λ k. inl (one b .0 k)) inr (both .0 m),
-      λ p. both .1 (⊎-elim (λ q. inl (one b .1 q)) inr p),
+      λ m. ⊎-elim (λ k. inl (∈-cond b a rule .0 k)) inr (both .0 m),
+      λ p. both .1 (⊎-elim (λ q. inl (∈-cond b a rule .1 q)) inr p),
     )
-  where
-    one : (t : Bool) → a ∈ cond t (single rule) ∅ ↔ ((t ≡ true) × (a ≡ rule))
-    one true = (λ m. (refl, ∈-single a rule .0 m), λ p. ∈-single a rule .1 (p .1))
-    one false = ((λ m. absurd (∈-∅ m)), λ p. absurd (true≢false (sym (p .0))))
 
 module _ (minute a : ℕ) where
   abbrev Gathers : List Entry → Type 0

@@ -188,6 +188,11 @@ pub ∈-single : (a b : ℕ) → a ∈ single b ↔ (a ≡ b)
         let q = ap (λ y. y / 2 ^ a) (ap (λ y. 2 ^ y) z ∙ pow-add 2 (suc (b - suc a)) a) ∙ shl-shr (2 ^ suc (b - suc a)) a in
         omega (arith, m .bit, ap (λ y. y % 2) q, even (b - suc a))
 
+-- a alone where b is true, otherwise nothing
+pub ∈-cond : (b : Bool) (a n : ℕ) → a ∈ cond b (single n) ∅ ↔ ((b ≡ true) × (a ≡ n))
+∈-cond true a n = (λ m. (refl, ∈-single a n .0 m), λ p. ∈-single a n .1 (p .1))
+∈-cond false a n = ((λ m. absurd (∈-∅ m)), λ p. absurd (true≢false (sym (p .0))))
+
 module _ (f : ℕ → Bool) where
   pub setOf-below : (n : ℕ) → setOf f n < 2 ^ n
   unfolding setOf
@@ -205,10 +210,6 @@ module _ (f : ℕ → Bool) where
       go : (b : Bool) → cond b (2 ^ n) 0 + setOf f n ≡ cond b (single n) ∅ ∪ setOf f n
       go true = rw (← one-mul (2 ^ n)) (sym (or-shifted 1 n (setOf f n) (setOf-below n)))
       go false = omega arith
-
-  ∈-cond : (b : Bool) (a n : ℕ) → a ∈ cond b (single n) ∅ ↔ ((b ≡ true) × (a ≡ n))
-  ∈-cond true a n = (λ m. (refl, ∈-single a n .0 m), λ p. ∈-single a n .1 (p .1))
-  ∈-cond false a n = ((λ m. absurd (∈-∅ m)), λ p. absurd (true≢false (sym (p .0))))
 
   pub ∈-setOf : (a n : ℕ) → a ∈ setOf f n ↔ ((a < n) × (f a ≡ true))
   unfolding setOf

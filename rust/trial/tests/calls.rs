@@ -118,21 +118,32 @@ fn needed(request: &Request, opened: &Opened) -> Option<usize> {
     }
 }
 
-/// 3,200 random requests of one call, in three streams; each refusal that the call has must occur.
+/// The number of the refusal of a request's calendar itself, where the call takes one and the sheet is accepted.
+fn calendar_refused(request: &Request) -> Option<usize> {
+    let opened = open(&request.sheet).ok().filter(|_| matches!(request.call, LIST_AT | CHANGES))?;
+    opened.calendar(&request.companion).err().map(|refusal| refusal.number as usize)
+}
+
+/// 3,200 random requests of one call, in three streams; each refusal that the call has must occur, of a calendar too.
 fn many(call: u8, refusals: &[usize]) {
     let seed = seed();
     let mut random = Random::new(seed, 100 + u64::from(call));
     let context = format!("seed {seed}");
-    let mut numbers = [0; 13];
+    let (mut numbers, mut of_calendars) = ([0; 13], [0; 13]);
     for count in [100, 1_500, 1_600] {
         let requests: Vec<Request> = (0..count).map(|_| random_request(&mut random, call)).collect();
         let some = compare(&requests, &[], 1 << 16, &context);
         numbers.iter_mut().zip(some).for_each(|(sum, count)| *sum += count);
+        requests.iter().filter_map(calendar_refused).for_each(|number| of_calendars[number] += 1);
     }
     println!("call {call}: seed {seed}, 3200 requests; accepted and refused by number {numbers:?}");
     for (number, &count) in numbers.iter().enumerate() {
         let enough = if number == 0 || refusals.contains(&number) { count >= 5 } else { count == 0 };
         assert!(enough, "refusal {number} came {count} times; {context}");
+    }
+    if refusals.contains(&11) {
+        let enough = [1, 2, 6, 11].iter().all(|&number: &usize| of_calendars[number] >= 5);
+        assert!(enough, "refusals of calendars by number {of_calendars:?}; {context}");
     }
 }
 

@@ -1,7 +1,6 @@
 -- A calendar is accepted, or refused with a number and a place, exactly where its bytes are as CalendarCases.antt says. Assumes nothing.
 use Prim.Native.Nat.{ℕ, zero, suc, _+_, _-_, _≤_, _<_}
 use mathlib.Core.Path.{_≡_, sym, ap, ap₂, _∙_, subst}
-use mathlib.Core.Bool.{Bool, true, false}
 use mathlib.Core.List.{List, []}
 use mathlib.Core.Logic.{_↔_, ⊎-elim}
 use native.Mathlib.Omega.{arith}
@@ -12,17 +11,10 @@ use Rattle.sets.specs.Lists.{_among_, upTo, among-map, among-upTo, length-upTo,
 use Rattle.semantics.specs.Definitions.Reading.{Reading, field, refused, _then_, require, times}
 use Rattle.semantics.specs.Definitions.Sheet.{byteAt, countAt}
 use Rattle.semantics.specs.Definitions.Calendar.{mostEntries, Entry, proper, entryAt, calendarOf}
-use Rattle.semantics.specs.Theorems.Reading.{field-same}
+use Rattle.semantics.specs.Theorems.Reading.{field-same, require-passes, require-fails}
 use Rattle.semantics.specs.Theorems.Turns.{starts, goes-on, stops, is-done}
 use Rattle.semantics.specs.Theorems.InForce.{Proper, dec-proper, AllProper}
 use Rattle.semantics.specs.Theorems.CalendarCases.{entryPlace, entryBy, entriesOfBytes, Stands, ProperAt, GoodBefore, CountStands, NoCount, TooMany, CalendarRefuses, CalendarAccepts, calendar-decided}
-
--- ---- steps
-passes : {A : Type 0} {b : Bool} (number place : ℕ) (rest : Reading A) → b ≡ true → require b number place rest ≡ rest
-passes number place rest e = ap (λ b. require b number place rest) e
-
-fails : {A : Type 0} {b : Bool} (number place : ℕ) (rest : Reading A) → b ≡ false → require b number place rest ≡ refused number place
-fails number place rest e = ap (λ b. require b number place rest) e
 
 module _ (c : List ℕ) (rules : ℕ) where
   -- ---- one entry
@@ -33,19 +25,19 @@ module _ (c : List ℕ) (rules : ℕ) where
   unfolding entryAt
   entry-good i s p =
       let z : entryPlace i + 5 ≡ entryPlace (i + 1) = omega arith in
-      passes 1 (length c) (judged i) (is-true (dec-le (entryPlace i + 5) (length c)) s)
-      ∙ passes 11 (entryPlace i) (field (entryBy c i) (entryPlace i + 5)) (is-true (dec-proper rules (entryBy c i)) p)
+      require-passes 1 (length c) (judged i) (is-true (dec-le (entryPlace i + 5) (length c)) s)
+      ∙ require-passes 11 (entryPlace i) (field (entryBy c i) (entryPlace i + 5)) (is-true (dec-proper rules (entryBy c i)) p)
       ∙ ap (field (entryBy c i)) z
 
   entry-cut : (i : ℕ) → (Stands c i → ⊥) → entryAt c rules (entryPlace i) ≡ refused 1 (length c)
   unfolding entryAt
-  entry-cut i s = fails 1 (length c) (judged i) (is-false (dec-le (entryPlace i + 5) (length c)) s)
+  entry-cut i s = require-fails 1 (length c) (judged i) (is-false (dec-le (entryPlace i + 5) (length c)) s)
 
   entry-bad : (i : ℕ) → Stands c i → (ProperAt c rules i → ⊥) → entryAt c rules (entryPlace i) ≡ refused 11 (entryPlace i)
   unfolding entryAt
   entry-bad i s p =
-      passes 1 (length c) (judged i) (is-true (dec-le (entryPlace i + 5) (length c)) s)
-      ∙ fails 11 (entryPlace i) (field (entryBy c i) (entryPlace i + 5)) (is-false (dec-proper rules (entryBy c i)) p)
+      require-passes 1 (length c) (judged i) (is-true (dec-le (entryPlace i + 5) (length c)) s)
+      ∙ require-fails 11 (entryPlace i) (field (entryBy c i) (entryPlace i + 5)) (is-false (dec-proper rules (entryBy c i)) p)
 
   -- ---- the entries, n of them
   abbrev step : List Entry → ℕ → Reading Entry
@@ -75,15 +67,15 @@ module _ (c : List ℕ) (rules : ℕ) where
   unfolding calendarOf countAt
   after-count (l, few) =
       ap (λ r. r then from-count)
-      (passes 1 (length c) few-or-many (is-true (dec-le 1 (length c)) l)
-      ∙ passes 2 0 (field (byteAt c 0) 1) (is-true (dec-le (byteAt c 0) mostEntries) few))
+      (require-passes 1 (length c) few-or-many (is-true (dec-le 1 (length c)) l)
+      ∙ require-passes 2 0 (field (byteAt c 0) 1) (is-true (dec-le (byteAt c 0) mostEntries) few))
 
   no-count : (number place : ℕ) → NoCount c number place → calendarOf c rules ≡ refused number place
   unfolding calendarOf countAt
   no-count number place h =
       let none = h .no-bytes in
       ap (λ r. r then from-count)
-      (fails 1 (length c) few-or-many (is-false (dec-le 1 (length c)) (λ l. omega arith)))
+      (require-fails 1 (length c) few-or-many (is-false (dec-le 1 (length c)) (λ l. omega arith)))
       ∙ ap₂ refused (sym (h .numbered)) (none ∙ sym (h .placed))
 
   too-many : (number place : ℕ) → TooMany c number place → calendarOf c rules ≡ refused number place
@@ -91,8 +83,8 @@ module _ (c : List ℕ) (rules : ℕ) where
   too-many number place h =
       let many = h .many in
       ap (λ r. r then from-count)
-      (passes 1 (length c) few-or-many (is-true (dec-le 1 (length c)) (h .some-bytes))
-      ∙ fails 2 0 (field (byteAt c 0) 1) (is-false (dec-le (byteAt c 0) mostEntries) (λ l. omega arith)))
+      (require-passes 1 (length c) few-or-many (is-true (dec-le 1 (length c)) (h .some-bytes))
+      ∙ require-fails 2 0 (field (byteAt c 0) 1) (is-false (dec-le (byteAt c 0) mostEntries) (λ l. omega arith)))
       ∙ ap₂ refused (sym (h .numbered)) (sym (h .placed))
 
   -- the reading stops at the entry i, those before it being good
@@ -121,14 +113,14 @@ module _ (c : List ℕ) (rules : ℕ) where
       let more = h .more in
       let n = byteAt c 0 in
       all-read (h .counted) (h .all-good)
-      ∙ fails 6 (entryPlace n) (field (entriesOfBytes c n) (entryPlace n)) (is-false (dec-eq (entryPlace n) (length c)) (λ e. omega arith))
+      ∙ require-fails 6 (entryPlace n) (field (entriesOfBytes c n) (entryPlace n)) (is-false (dec-eq (entryPlace n) (length c)) (λ e. omega arith))
       ∙ ap₂ refused (sym (h .numbered)) (sym (h .placed))))))
 
   accepts : (entries : List Entry) (end : ℕ) → CalendarAccepts c rules entries end → calendarOf c rules ≡ field entries end
   accepts entries end h =
       let n = byteAt c 0 in
       all-read (h .counted) (h .all-good)
-      ∙ passes 6 (entryPlace n) (field (entriesOfBytes c n) (entryPlace n)) (is-true (dec-eq (entryPlace n) (length c)) (sym (h .whole)))
+      ∙ require-passes 6 (entryPlace n) (field (entriesOfBytes c n) (entryPlace n)) (is-true (dec-eq (entryPlace n) (length c)) (sym (h .whole)))
       ∙ ap₂ field (sym (h .entries-lie)) (sym (h .ends ∙ h .whole))
 
   pub calendar-refused-exactly : (number place : ℕ) → calendarOf c rules ≡ refused number place ↔ CalendarRefuses c rules number place

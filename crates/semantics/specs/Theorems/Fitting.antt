@@ -15,6 +15,7 @@ use Rattle.semantics.specs.Definitions.Reading.{Reading, field, _then_, 
 use Rattle.semantics.specs.Definitions.Sheet.{byteAt, wordAt, present, countAt, nameByteAt, nameAt, maskAt, ruleAt, sections, mostAtoms, mostRules, longestName}
 use Rattle.semantics.specs.Definitions.Setting.{k}
 use Rattle.semantics.specs.Definitions.Check.{mostNegations, setting, opened}
+use Rattle.semantics.specs.Theorems.Reading.{require-passes}
 use Rattle.semantics.specs.Theorems.Names.{GoodName, Letter, Allowed, dec-between, dec-allowed}
 use Rattle.semantics.specs.Theorems.Layout.{nameBytes, maskBytes, ruleBytes, sheetBytes, sheetOf, Fits}
 
@@ -24,7 +25,7 @@ then-is : {A B : Type 0} {r : Reading A} {v : A} {next : ℕ} (rest : A → ℕ 
 then-is rest e f = ap (λ r. r then rest) e ∙ f
 
 require-is : {A : Type 0} {b : Bool} (number place : ℕ) {rest x : Reading A} → b ≡ true → rest ≡ x → require b number place rest ≡ x
-require-is number place {rest} e f = ap (λ b. require b number place rest) e ∙ f
+require-is number place {rest} e f = require-passes number place rest e ∙ f
 
 -- ---- bytes
 allowed-at : (n earlier later : List ℕ) (b : ℕ) → GoodName n → earlier ++ b ∷ later ≡ n → Allowed (null earlier) b

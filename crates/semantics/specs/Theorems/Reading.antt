@@ -23,6 +23,13 @@ module _ {A : Type 0} where
   require-field true number place rest e = (refl, e)
   require-field false number place rest e = let z : _≡_ {A = ℕ} 0 1 = cc in absurd (omega arith)
 
+  -- a check that is passed, and one that is not
+  pub require-passes : {b : Bool} (number place : ℕ) (rest : Reading A) → b ≡ true → require b number place rest ≡ rest
+  require-passes number place rest e = ap (λ b. require b number place rest) e
+
+  pub require-fails : {b : Bool} (number place : ℕ) (rest : Reading A) → b ≡ false → require b number place rest ≡ refused number place
+  require-fails number place rest e = ap (λ b. require b number place rest) e
+
   -- the check is not passed after the reading r, and is refused so
   pub record NotPassed (r : Reading A) (passed : A → Bool) (number place : ℕ) (n p : ℕ) : Type 0 where
     pub value : A
