@@ -21,7 +21,7 @@ use source::for_atom;
 use source::for_guess;
 use source::of_sheet;
 use verdict::Verdict;
-use verdict::belief_sets as gather;
+use verdict::belief_sets as belief_sets_on;
 use verdict::verdict_on;
 ghost use mathlib.Core.Path.{_≡_};
 ghost use lib.ListN.{length};
@@ -121,18 +121,15 @@ pub fn verdict(sheet: &[u8], guess: u32) -> Judged
     let mut words = [0u16; 512];
     let source = of_sheet(sheet, &mut words[..]);
     match for_guess(source, guess) {
-        Source::Accepted(x) => {
-            let mut room = [0u16; 32768];
-            match verdict_on(&words[..], x, guess as u16, &mut room[..]) {
-                Verdict::Empty => Judged::Empty,
-                Verdict::Other(found) => Judged::Other { found },
-                Verdict::Verified(known, possible, sets) => Judged::Verified {
-                    known,
-                    possible,
-                    sets,
-                },
-            }
-        }
+        Source::Accepted(x) => match verdict_on(&words[..], x, guess as u16) {
+            Verdict::Empty => Judged::Empty,
+            Verdict::Other(found) => Judged::Other { found },
+            Verdict::Verified(known, possible, sets) => Judged::Verified {
+                known,
+                possible,
+                sets,
+            },
+        },
         Source::Refused(number, place) => Judged::Refused { number, place },
     }
 }
@@ -148,7 +145,7 @@ pub fn belief_sets(sheet: &[u8], guess: u32, out: &mut [u16]) -> Counted
     match for_guess(source, guess) {
         Source::Accepted(x) => {
             let mut room = [0u16; 32768];
-            let n = gather(&words[..], x, guess as u16, &mut room[..]);
+            let n = belief_sets_on(&words[..], x, guess as u16, &mut room[..]);
             if out.len() < n {
                 return Counted::Refused {
                     number: 9,

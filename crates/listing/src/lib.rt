@@ -14,7 +14,6 @@ use sets::power;
 ghost use mathlib.Core.Path.{_≡_};
 ghost use Prim.Native.Nat.{_+_, _*_, _^_, _<_, _≤_};
 ghost use lib.ListN.{length};
-ghost use Rattle.semantics.specs.Definitions.Sheet.{mostAtoms};
 ghost use Rattle.semantics.specs.Definitions.Check.{mostNegations};
 ghost use Rattle.semantics.specs.Definitions.Order.{membersBelow};
 ghost use Rattle.semantics.specs.Walk.{recordsRoom, advance as advanceIn};
@@ -26,15 +25,8 @@ ghost use Rattle.listing.specs.Outcomes.{tallyFrom};
 ghost use Rattle.listing.specs.Walks.{walkedIn, ListingAlong};
 
 // One guess more: covered by a view already met, and then it costs no reduct; or examined, and its record written where it is a view.
-fn advance(
-    words: &[u16],
-    x: Outline,
-    guess: u16,
-    tally: Tally,
-    records: &mut [u16],
-    room: &mut [u16],
-) -> Tally
-    requires { ⌜ Outlines x (now words) × (guess < 2 ^ x .negations) × (2 ^ mostAtoms ≤ length (now room)) ⌝ }
+fn advance(words: &[u16], x: Outline, guess: u16, tally: Tally, records: &mut [u16]) -> Tally
+    requires { ⌜ Outlines x (now words) × (guess < 2 ^ x .negations) ⌝ }
     requires { ⌜ AtMost (tallyFrom tally) (2 ^ mostNegations) × (4 * tally .views + 4 ≤ length (now records)) × LargerFirst (now records) (tally .views) ⌝ }
     ensures { λ r. ⌜ length (now (records .exit)) ≡ length (now (records .entry)) ⌝ }
     ensures { λ r. ⌜ walkedIn r (now (records .exit)) ≡ advanceIn (settingIn x (now (words .entry))) (walkedIn tally (now (records .entry))) guess ⌝ }
@@ -42,7 +34,7 @@ fn advance(
     if covered_by(&records[..], tally.views, guess) {
         return count(tally, Outcome::Covered);
     }
-    let outcome = examine(words, x, guess, &mut room[..]);
+    let outcome = examine(words, x, guess);
     note(outcome, &mut records[4 * tally.views..]);
     count(tally, outcome)
 }
@@ -56,7 +48,6 @@ pub fn walk(words: &[u16], x: Outline, order: &[u16], records: &mut [u16]) -> Ta
     ensures { λ r. ⌜ 4 * r .views ≤ length (now (records .entry)) ⌝ }
     ensures { λ r. ⌜ ListingAlong (settingIn x (now (words .entry))) (now (order .entry)) (tallyFrom r) (viewsIn (now (records .exit)) (r .views)) ⌝ }
 {
-    let mut room = [0u16; 32768];
     let end = power(x.negations as u16);
     let mut tally = Tally {
         views: 0,
@@ -70,7 +61,7 @@ pub fn walk(words: &[u16], x: Outline, order: &[u16], records: &mut [u16]) -> Ta
     while i < order.len() {
         let guess = order[i];
         if guess < end {
-            tally = advance(words, x, guess, tally, &mut records[..], &mut room[..]);
+            tally = advance(words, x, guess, tally, &mut records[..]);
         }
         i += 1;
     }

@@ -9,7 +9,6 @@ use verdict::judge;
 ghost use mathlib.Core.Path.{_≡_};
 ghost use Prim.Native.Nat.{_^_, _<_, _≤_};
 ghost use lib.ListN.{length};
-ghost use Rattle.semantics.specs.Definitions.Sheet.{mostAtoms};
 ghost use Rattle.semantics.specs.Definitions.Check.{mostNegations};
 ghost use Rattle.semantics.specs.Definitions.Returned.{written};
 ghost use Rattle.semantics.specs.Definitions.Listing.{words};
@@ -78,8 +77,8 @@ pub fn note(outcome: Outcome, part: &mut [u16])
 }
 
 // What a guess that is not covered counts as. Its reduct is built once.
-pub fn examine(words: &[u16], x: Outline, guess: u16, room: &mut [u16]) -> Outcome
-    requires { ⌜ Outlines x (now words) × (guess < 2 ^ x .negations) × (2 ^ mostAtoms ≤ length (now room)) ⌝ }
+pub fn examine(words: &[u16], x: Outline, guess: u16) -> Outcome
+    requires { ⌜ Outlines x (now words) × (guess < 2 ^ x .negations) ⌝ }
     ensures { λ r. ⌜ ExaminedAs (settingIn x (now (words .entry))) guess (outcomeFrom r) ⌝ }
 {
     let mut program = [0u16; 256];
@@ -87,7 +86,7 @@ pub fn examine(words: &[u16], x: Outline, guess: u16, room: &mut [u16]) -> Outco
     if contradicted(&program[..], rules, x, guess) {
         return Outcome::Ruled;
     }
-    match judge(&program[..], rules, x, guess, &mut room[..]) {
+    match judge(&program[..], rules, x, guess) {
         Verdict::Empty => Outcome::Empty,
         Verdict::Other(_) => Outcome::Other,
         Verdict::Verified(known, possible, sets) => Outcome::View(View {

@@ -18,3 +18,4 @@ pub mod Desk
 pub mod Program
 -- ---- document 02
 pub mod Calendar
+pub mod Pass

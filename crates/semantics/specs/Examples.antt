@@ -1,5 +1,5 @@
 -- Sheets whose lists are known, limit cases of the reading, the table of the reduct, verdicts and belief sets of guesses, what the listing, the
--- desk call and the query return, what `views` prints, and calendars, computed from the bytes.
+-- desk call and the query return, what `views` prints, calendars, and what one pass gathers, computed from the bytes.
 pub mod Sheets
 pub mod Own
 pub mod Limits
@@ -11,4 +11,5 @@ pub mod Texts
 pub mod Calendars
 pub mod Minutes
 pub mod Changed
+pub mod Passes
 pub mod Computed

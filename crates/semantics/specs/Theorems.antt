@@ -50,3 +50,4 @@ pub mod Changes
 pub mod CalendarCalls
 pub mod CalendarPlaces
 pub mod Ends
+pub mod Pass

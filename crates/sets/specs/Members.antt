@@ -1,16 +1,17 @@
 -- The members of each set that is made of others, and what the tests decide. Here the laws of bits end. Assumes nothing.
 use Prim.Native.Nat.{ℕ, zero, suc, _+_, _-_, _*_, _/_, _%_, _^_, _≤_, _<_, min, max}
 use mathlib.Core.Path.{_≡_, refl, sym, ap, ap₂, _∙_, subst}
-use mathlib.Core.Bool.{Bool, true, false, cond, true≢false}
+use mathlib.Core.Bool.{Bool, true, false, not, _&&_, cond, true≢false}
 use mathlib.Core.List.{List, [], _∷_, foldl}
 use mathlib.Core.Logic.{_↔_, _⊎_, inl, inr, ⊎-elim}
 use native.Mathlib.Omega.{arith}
 use native.Mathlib.Nat.{zero-div, div-eq-of-lt, eq-zero-or-pos, one-mul, pow-suc, eq-or-lt-of-le, le-of-suc-le-suc, not-suc-le-zero, lt-of-lt-of-le, lt-of-not-le}
 use lib.Arith.{bin-ind}
 use lib.Bits.{and-step, and-shr, or-step, or-shr, and-le-l, and-le-r, or-zero-l, or-shifted}
+use lib.Dec.{eqb}
 use lib.ListN.{getD}
 use lib.Pow.{shr-shr, shl-shr, pow-add, pow-mono, pow-lt, pow-pos}
-use Rattle.sets.specs.Decides.{is-true, Decides, decided, dec-iff, dec-not, dec-and, dec-eq, dec-le}
+use Rattle.sets.specs.Decides.{is-true, Decides, decided, dec-one, dec-iff, dec-not, dec-and, dec-eq, dec-le}
 use Rattle.sets.specs.Lists.{_among_, here, later, nowhere, first-or-later, all-cons, all-getD}
 use Rattle.sets.specs.Sets.{_∈_, _⊆_, _⊂_, Meets, Below, _∈?_, _⊆?_, _⊂?_, _meets?_, _∩_, _∪_, _∖_, ∅, full, single, setOf, ⋂, ⋃}
 
@@ -171,6 +172,43 @@ dec-meets x y =
 
 pub meets-⊆ : {x y z : ℕ} → Meets x y → y ⊆ z → Meets x z
 meets-⊆ m s = record { common = m .common; left = m .left; right = s .into (m .right) }
+
+-- ---- a union of sets within another, and one that meets another
+module _ (x y z : ℕ) where
+  pub ∪-⊆ : (x ∪ y ⊆ z) ↔ ((x ⊆ z) × (y ⊆ z))
+  ∪-⊆ = (
+    λ s. (record { into = λ {a} m. s .into (∈-∪ a x y .1 (inl m)) }, record { into = λ {a} m. s .into (∈-∪ a x y .1 (inr m)) }),
+    λ p. record { into = λ {a} m. ⊎-elim (p .0 .into) (p .1 .into) (∈-∪ a x y .0 m) },
+  )
+
+  pub ∪-meets : Meets (x ∪ y) z ↔ (Meets x z ⊎ Meets y z)
+  ∪-meets = (
+    λ m. ⊎-elim (λ l. inl (record { common = m .common; left = l; right = m .right })) (λ l. inr (record { common = m .common; left = l; right = m .right }))
+        (∈-∪ (m .common) x y .0 (m .left)),
+    ⊎-elim
+        (λ m. record { common = m .common; left = ∈-∪ (m .common) x y .1 (inl (m .left)); right = m .right })
+        (λ m. record { common = m .common; left = ∈-∪ (m .common) x y .1 (inr (m .left)); right = m .right }),
+  )
+
+-- ---- a set that has every member of x and lacks every member of y
+pub has-and-lacks : (i x y : ℕ) → eqb (x ∖ i ∪ y ∩ i) ∅ ≡ (x ⊆? i) && not (y meets? i)
+has-and-lacks i x y = dec-one (dec-iff (none-wrong, wrong) (dec-eq (x ∖ i ∪ y ∩ i) ∅)) (dec-and (dec-⊆ x i) (dec-not (dec-meets y i)))
+  where
+    out : (a : ℕ) → x ∖ i ∪ y ∩ i ≡ ∅ → (a ∈ x ∖ i) ⊎ (a ∈ y ∩ i) → ⊥
+    out a e m = ∈-∅ (subst (λ z. a ∈ z) e (∈-∪ a (x ∖ i) (y ∩ i) .1 m))
+
+    none-wrong : x ∖ i ∪ y ∩ i ≡ ∅ → (x ⊆ i) × (Meets y i → ⊥)
+    none-wrong e = (
+      record { into = λ {a} m. ⊎-elim (λ k. k) (λ n. absurd (out a e (inl (∈-∖ a x i .1 (m, n))))) (decided (dec-∈ a i)) },
+      λ m. out (m .common) e (inr (∈-∩ (m .common) y i .1 (m .left, m .right))),
+    )
+
+    wrong : (x ⊆ i) × (Meets y i → ⊥) → x ∖ i ∪ y ∩ i ≡ ∅
+    wrong p = ∈-ext (x ∖ i ∪ y ∩ i) ∅ (λ a. (
+      λ m. absurd (⊎-elim (λ k. let (l, n) = ∈-∖ a x i .0 k in n (p .0 .into l))
+          (λ k. let (l, n) = ∈-∩ a y i .0 k in p .1 (record { common = a; left = l; right = n })) (∈-∪ a (x ∖ i) (y ∩ i) .0 m)),
+      λ m. absurd (∈-∅ m),
+    ))
 
 -- ---- a alone, and the numbers below n of which f holds
 pub ∈-single : (a b : ℕ) → a ∈ single b ↔ (a ≡ b)

@@ -3,7 +3,7 @@
 pub mod wide;
 
 ghost use mathlib.Core.Path.{_≡_};
-ghost use mathlib.Core.Bool.{cond};
+ghost use mathlib.Core.Bool.{not, _&&_, cond};
 ghost use Prim.Native.Nat.{_^_, _<_};
 ghost use Rattle.sets.specs.Sets.{_∈?_, _⊆?_, _meets?_, _∪_, _∖_, ∅, full as fullOf, single, size as sizeOf};
 
@@ -27,6 +27,13 @@ pub fn meets(x: u16, y: u16) -> bool
     ensures { λ r. ⌜ r ≡ (x meets? y) ⌝ }
 {
     x & y != 0
+}
+
+// Has i every member of x, and no member of y? One comparison tells both.
+pub fn has_and_lacks(i: u16, x: u16, y: u16) -> bool
+    ensures { λ r. ⌜ r ≡ (x ⊆? i) && not (y meets? i) ⌝ }
+{
+    minus(x, i) | (y & i) == 0
 }
 
 // The members of x that are not in y.

@@ -3,11 +3,11 @@ use Prim.Native.Nat.{ℕ}
 use mathlib.Core.Path.{_≡_}
 use mathlib.Core.Bool.{not, _&&_, _||_}
 use mathlib.Core.List.{List}
-use mathlib.Core.Logic.{_↔_}
-use Rattle.sets.specs.Decides.{Decides, dec-one, dec-iff, dec-not, dec-and, dec-imp}
+use mathlib.Core.Logic.{_↔_, inl, inr, ⊎-elim}
+use Rattle.sets.specs.Decides.{Decides, decided, dec-one, dec-iff, dec-not, dec-and, dec-imp}
 use Rattle.sets.specs.Lists.{_among_}
-use Rattle.sets.specs.Sets.{_⊆_, Meets, _⊆?_, _meets?_, ∅}
-use Rattle.sets.specs.Members.{∈-∅, ∅-⊆, ⊆-trans, dec-⊆, dec-meets}
+use Rattle.sets.specs.Sets.{_⊆_, Meets, _⊆?_, _meets?_, _∪_, ∅}
+use Rattle.sets.specs.Members.{∈-∅, ∅-⊆, ⊆-trans, dec-⊆, dec-meets, ∪-⊆, ∪-meets}
 use Rattle.semantics.specs.Definitions.Rules.{Rule}
 use Rattle.semantics.specs.Definitions.Stable.{satisfies, isModel, reductAt, smallerModel, stable}
 use Rattle.semantics.specs.Theorems.Stable.{NegationsHold, Model, ReducedModel, dec-negations, dec-model, dec-smaller, dec-stable, positive-model, reduced-model}
@@ -19,6 +19,24 @@ Applies i r = (r .plain ⊆ i) × NegationsHold i r
 
 dec-applies : (i : ℕ) (r : Rule) → Decides (Applies i r) (applies i r)
 dec-applies i r = dec-and (dec-⊆ (r .plain) i) (dec-negations i r)
+
+-- they do where i has every plain and "not not" atom, and no "not" atom
+pub applies-by : (i : ℕ) (r : Rule) → (r .plain ∪ r .notNots) ⊆? i && not (r .nots meets? i) ≡ applies i r
+applies-by i r =
+    let u = ∪-⊆ (r .plain) (r .notNots) i in
+    dec-one (dec-and (dec-⊆ (r .plain ∪ r .notNots) i) (dec-not (dec-meets (r .nots) i)))
+    (dec-iff (λ h. (u .1 (h .0, h .1 .1), h .1 .0), λ h. (u .0 (h .0) .0, (h .1, u .0 (h .0) .1))) (dec-applies i r))
+
+-- a rule is satisfied where i lacks a plain or "not not" atom, or has a "not" or head atom
+pub satisfies-by : (i : ℕ) (r : Rule) → not ((r .plain ∪ r .notNots) ⊆? i) || (r .nots ∪ r .head) meets? i ≡ satisfies i r
+satisfies-by i r =
+    let u = ∪-⊆ (r .plain) (r .notNots) i in
+    let m = ∪-meets (r .nots) (r .head) i in
+    dec-one (dec-imp (dec-⊆ (r .plain ∪ r .notNots) i) (dec-meets (r .nots ∪ r .head) i))
+    (dec-iff (
+      λ f s. ⊎-elim (λ n. m .1 (inl n)) (λ n. m .1 (inr (f (u .0 s .0, (n, u .0 s .1))))) (decided (dec-meets (r .nots) i)),
+      λ f h. ⊎-elim (λ n. absurd (h .1 .0 n)) (λ n. n) (m .0 (f (u .1 (h .0, h .1 .1)))),
+    ) (dec-imp (dec-applies i r) (dec-meets (r .head) i)))
 
 -- a rule of a head and plain atoms is satisfied where the head meets the set or the plain atoms are not within it
 pub positive-satisfies : (i head plain : ℕ)

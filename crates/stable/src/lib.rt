@@ -1,4 +1,5 @@
 // The stability test of a program without K and M, held in words, four a rule (`programIn` of semantics/specs/Words.antt).
+use sets::has_and_lacks;
 use sets::meets;
 use sets::subset;
 ghost use mathlib.Core.Path.{_≡_};
@@ -29,20 +30,18 @@ fn applies(program: &[u16], j: usize, i: u16) -> bool
     ensures { λ r. ⌜ r ≡ appliesIn i (ruleIn (now (program .entry)) j) ⌝ }
 {
     let at = 4 * j;
-    let plain = subset(program[at + 1], i);
-    let nots = !meets(program[at + 2], i);
-    let not_nots = subset(program[at + 3], i);
-    plain & (nots & not_nots)
+    has_and_lacks(i, program[at + 1] | program[at + 3], program[at + 2])
 }
 
-// Is rule j satisfied in i?
+// Is rule j satisfied in i? It is where i lacks a plain or "not not" atom, or has a "not" or head atom.
 fn satisfied(program: &[u16], j: usize, i: u16) -> bool
     requires { ⌜ 4 * j + 4 ≤ length (now program) ⌝ }
     ensures { λ r. ⌜ r ≡ satisfies i (ruleIn (now (program .entry)) j) ⌝ }
 {
-    let body = applies(program, j, i);
-    let head = meets(program[4 * j], i);
-    !body | head
+    let at = 4 * j;
+    let asked = subset(program[at + 1] | program[at + 3], i);
+    let met = meets(program[at + 2] | program[at], i);
+    !asked | met
 }
 
 // Is j the number of one of so many rules, and that rule not satisfied in i?

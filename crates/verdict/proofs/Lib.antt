@@ -1,3 +1,3 @@
--- What the proofs cite: turns of the walks, and the verdict from what they give.
-pub mod Walked
+-- What the proofs cite: a turn of the pass, and the verdict from what is gathered.
+pub mod Passing
 pub mod Judging

@@ -1,2 +1,3 @@
--- What the answers of the code mean.
+-- What the answers of the code mean, and words written over others.
 pub mod Verdicts
+pub mod Over

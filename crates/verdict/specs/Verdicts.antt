@@ -1,12 +1,9 @@
--- The verdict on a guess, as the code has it. Assumes nothing.
-use Prim.Native.Nat.{ℕ}
-use mathlib.Core.Bool.{not}
-use lib.Dec.{eqb}
+-- The verdict on a guess, and what the pass gathers, as the code has them. Assumes nothing.
 use Rattle.semantics.specs.Definitions.Verdict as meant
-use Rattle.guess.specs.declared.outline.Outline.{Outline}
-use Rattle.guess.specs.Negations.{foundBy}
+use Rattle.semantics.specs.Definitions.Pass as pass
 use Rattle.verdict.specs.declared.Verdict.{Verdict}
 use Rattle.verdict.specs.declared.Verdict.the-variants.{Empty, Other, Verified}
+use Rattle.verdict.specs.declared.pass.Gathered.{Gathered}
 
 -- the verdict that an answer stands for
 abbrev pub verdictOf : Verdict → meant.Verdict
@@ -14,6 +11,6 @@ verdictOf Empty = meant.empty
 verdictOf (Other found) = meant.other found
 verdictOf (Verified known possible sets) = meant.verified known possible sets
 
--- the verdict on a guess that has n belief sets, in which so much is known and possible
-abbrev pub verdictFrom : Outline → (n known possible guess : ℕ) → meant.Verdict
-verdictFrom x n known possible g = let found = foundBy x known possible in meant.judge (eqb n 0) (not (eqb found g)) found known possible n
+-- what was gathered, and in how many tests
+abbrev pub gatheredBy : Gathered → pass.Gathered
+gatheredBy y = record { known = y .known; possible = y .possible; sets = y .sets; tests = y .tests }

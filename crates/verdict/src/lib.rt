@@ -1,22 +1,22 @@
 // The verdict on a guess: its belief sets, what is known and possible in them, and the guess that they find.
-mod walks;
+mod pass;
 
 use guess::negations::found;
 use guess::outline::Outline;
 use guess::reduct::reduct;
-use walks::known_in;
-use walks::possible_in;
-use walks::stable_sets;
+use pass::Gathered;
+use pass::gather;
 ghost use mathlib.Core.Path.{_≡_};
 ghost use Prim.Native.Nat.{_*_, _^_, _≤_};
 ghost use lib.ListN.{length, take};
 ghost use Rattle.semantics.specs.Words.{programRoom, programIn};
 ghost use Rattle.semantics.specs.Definitions.Sheet.{mostAtoms};
 ghost use Rattle.semantics.specs.Definitions.Verdict.{verdict, beliefSets};
+ghost use Rattle.semantics.specs.Definitions.Pass.{verdictFrom};
 ghost use Rattle.guess.specs.Programs.{settingIn, Outlines};
-ghost use Rattle.guess.specs.Negations.{Few};
+ghost use Rattle.guess.specs.Negations.{Few, negationsBy};
 ghost use Rattle.guess.specs.Settings.{settingBy};
-ghost use Rattle.verdict.specs.Verdicts.{verdictOf, verdictFrom};
+ghost use Rattle.verdict.specs.Verdicts.{gatheredBy, verdictOf};
 
 // What is said of a guess: no belief set; the guess found, which is another; or known, possible and the number of belief sets.
 pub enum Verdict {
@@ -25,40 +25,39 @@ pub enum Verdict {
     Verified(u16, u16, usize),
 }
 
-// The verdict, by how many belief sets there are, and what is known and possible in them.
-fn decide(n: usize, known: u16, possible: u16, x: Outline, guess: u16) -> Verdict
+// The verdict, by what is gathered of the belief sets.
+fn decide(y: Gathered, x: Outline, guess: u16) -> Verdict
     requires { ⌜ Few x ⌝ }
-    ensures { λ r. ⌜ verdictOf r ≡ verdictFrom x n known possible guess ⌝ }
+    ensures { λ r. ⌜ verdictOf r ≡ verdictFrom (negationsBy x) (gatheredBy y) guess ⌝ }
 {
-    if n == 0 {
+    if y.sets == 0 {
         return Verdict::Empty;
     }
-    let other = found(x, known, possible);
+    let other = found(x, y.known, y.possible);
     if other == guess {
-        return Verdict::Verified(known, possible, n);
+        return Verdict::Verified(y.known, y.possible, y.sets);
     }
     Verdict::Other(other)
 }
 
-// The verdict on a guess whose reduct is the first rules of a program. The words lent are room for the belief sets.
-pub fn judge(program: &[u16], rules: usize, x: Outline, guess: u16, room: &mut [u16]) -> Verdict
-    requires { ⌜ (4 * rules ≤ length (now program)) × (rules ≤ programRoom) × Few x × (2 ^ x .atoms ≤ length (now room)) ⌝ }
+// The verdict on a guess whose reduct is the first rules of a program. No word is lent for the belief sets.
+pub fn judge(program: &[u16], rules: usize, x: Outline, guess: u16) -> Verdict
+    requires { ⌜ (4 * rules ≤ length (now program)) × (rules ≤ programRoom) × Few x ⌝ }
     ensures { λ r. ⌜ verdictOf r ≡ verdict (settingBy x (programIn (now (program .entry)) rules)) guess ⌝ }
 {
-    let n = stable_sets(program, rules, x.atoms, &mut room[..]);
-    let known = known_in(&room[..], n, x.atoms);
-    let possible = possible_in(&room[..], n);
-    decide(n, known, possible, x, guess)
+    let mut none = [0u16; 0];
+    let y = gather(program, rules, x.atoms, &mut none[..]);
+    decide(y, x, guess)
 }
 
 // The verdict on a guess, of rules in words. The reduct is built once.
-pub fn verdict_on(words: &[u16], x: Outline, guess: u16, room: &mut [u16]) -> Verdict
-    requires { ⌜ Outlines x (now words) × (2 ^ mostAtoms ≤ length (now room)) ⌝ }
+pub fn verdict_on(words: &[u16], x: Outline, guess: u16) -> Verdict
+    requires { ⌜ Outlines x (now words) ⌝ }
     ensures { λ r. ⌜ verdictOf r ≡ verdict (settingIn x (now (words .entry))) guess ⌝ }
 {
     let mut program = [0u16; 256];
     let rules = reduct(words, x, guess, &mut program[..]);
-    judge(&program[..], rules, x, guess, &mut room[..])
+    judge(&program[..], rules, x, guess)
 }
 
 // Writes the belief sets of a guess, of rules in words, by rising number, and says how many they are. The reduct is built once.
@@ -70,5 +69,6 @@ pub fn belief_sets(words: &[u16], x: Outline, guess: u16, out: &mut [u16]) -> us
 {
     let mut program = [0u16; 256];
     let rules = reduct(words, x, guess, &mut program[..]);
-    stable_sets(&program[..], rules, x.atoms, &mut out[..])
+    let y = gather(&program[..], rules, x.atoms, &mut out[..]);
+    y.sets
 }

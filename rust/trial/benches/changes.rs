@@ -1,16 +1,11 @@
 //! The minutes of change of calendars of 64 entries, by the proved call and by the second solver: the time of each,
-//! their ratio, and that both give the same minutes.
-//!
-//! The proved call is reached through the program `calls` alone: its time is that of many such requests less that of as
-//! many checks of the same sheet, which read as many bytes and print as many cells.
+//! once the sheet is read, their ratio, and that both give the same minutes.
 
-use std::time::Duration;
 use trial::cases::sheets::many_rules;
 use trial::known::kiln;
-use trial::programs::output;
-use trial::request::{Request, CHANGES, CHECK};
+use trial::request::{Request, CHANGES};
 use trial::solver::calls::open;
-use trial::timing::{milliseconds, timed};
+use trial::timing::{milliseconds, requested, timed};
 use trial::write::{calendar, lettered, Entry};
 
 /// How many copies of a request the program answers in one run.
@@ -29,14 +24,6 @@ fn rows() -> [Row; 3] {
     ]
 }
 
-/// The best time of the program on copies of a request, each of which has this line.
-fn run(request: &Request, line: &str) -> Duration {
-    let input = request.bytes().repeat(COPIES);
-    let (printed, time) = timed(|| output("calls", input.clone(), 1 << 16));
-    assert!(printed == line.repeat(COPIES).as_bytes(), "call {}: the two give different lines", request.call);
-    time
-}
-
 fn main() {
     println!("{:<26}{:>9}{:>13}{:>13}{:>9}", "calendar", "minutes", "proved ms", "second ms", "ratio");
     for (name, sheet, entries) in rows() {
@@ -45,10 +32,7 @@ fn main() {
         let (minutes, second) = timed(|| opened.calendar(&companion).expect("accepted").changes());
         let cells = minutes.len() as u16;
         let request = Request { call: CHANGES, sheet, companion, cells, first: 1_000, ..Request::default() };
-        let check = Request { call: CHECK, ..request.clone() };
-        let [changes, checks] = [&request, &check].map(|request| run(request, &format!("{}\n", request.line())));
-        let proved = milliseconds(changes.saturating_sub(checks)) / COPIES as f64;
-        let second = milliseconds(second);
+        let [proved, second] = [requested(&request, COPIES), second].map(milliseconds);
         println!("{name:<26}{cells:>9}{proved:>13.3}{second:>13.3}{:>9.4}", proved / second);
     }
     println!("both give the same minutes of change; ratio: proved / second");

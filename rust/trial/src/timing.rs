@@ -1,5 +1,7 @@
 //! How long a call takes, for the benchmarks.
 
+use crate::programs::output;
+use crate::request::{Request, CHECK};
 use std::time::{Duration, Instant};
 
 /// What a call gives, and its best time of at least three runs; a first run of over a second is the only one.
@@ -15,6 +17,20 @@ pub fn timed<T>(call: impl Fn() -> T) -> (T, Duration) {
             return (given, times.into_iter().min().expect("a run"));
         }
     }
+}
+
+/// What a request to the program `calls` costs beyond a check of its sheet: the time of so many copies of it less that of
+/// as many checks, which read as many bytes and print as many cells.
+pub fn requested(request: &Request, copies: usize) -> Duration {
+    let check = Request { call: CHECK, ..request.clone() };
+    let [called, checked] = [request, &check].map(|request| {
+        let input = request.bytes().repeat(copies);
+        let lines = format!("{}\n", request.line()).repeat(copies);
+        let (printed, time) = timed(|| output("calls", input.clone(), 1 << 16));
+        assert!(printed == lines.as_bytes(), "call {}: the two give different lines", request.call);
+        time
+    });
+    called.saturating_sub(checked) / copies as u32
 }
 
 pub fn milliseconds(time: Duration) -> f64 {

@@ -35,13 +35,10 @@ cast-verdict-on c =
     let a = c .before .before .before .before .before .before .before .before .before .args in
     omega (arith, guess-fits (ofSheet (a .sheet .now)) (a .guess) _ _ (read (c .before .before .before .before)) (c .before .before .x .given .1))
 
-slice-aggregate-verdict-on-2 : tie.Need-slice-aggregate-verdict-on-2
-slice-aggregate-verdict-on-2 c = search needs
-
 verdict-on-requires : tie.Need-verdict-on-requires
 verdict-on-requires c κs =
-    let a = c .before .before .before .before .before .before .before .before .before .before .args in
-    (outlined (forGuess (ofSheet (a .sheet .now)) (a .guess)) _ _ (read (c .before .before .before .before .before)) (c .before .before .before .x .given .1), search needs)
+    let a = c .before .before .before .before .before .before .before .before .before .args in
+    outlined (forGuess (ofSheet (a .sheet .now)) (a .guess)) _ _ (read (c .before .before .before .before)) (c .before .before .x .given .1)
 
 enum-told : tie.Need-enum-told
 enum-told c = search needs
@@ -57,21 +54,21 @@ enum-known-number c = search needs
 
 returns : tie.Need-returns
 returns c =
-    let a = c .before .before .before .before .before .before .before .before .before .before .before .before .before .before .args in
+    let a = c .before .before .before .before .before .before .before .before .before .before .before .before .args in
     verdict-met (ofSheet (a .sheet .now)) (a .guess) Empty
-    (judged-as (ofSheet (a .sheet .now)) (a .guess) _ _ (read (c .before .before .before .before .before .before .before .before .before)) (c .before .before .before .before .before .before .before .x .given .1) (c .before .before .before .verdict-on .ensures) (c .enum-told .given .1))
+    (judged-as (ofSheet (a .sheet .now)) (a .guess) _ _ (read (c .before .before .before .before .before .before .before)) (c .before .before .before .before .before .x .given .1) (c .before .before .verdict-on .ensures) (c .enum-told .given .1))
 
 returns-2 : tie.Need-returns-2
 returns-2 c =
-    let a = c .before .before .before .before .before .before .before .before .before .before .before .before .before .before .before .args in
+    let a = c .before .before .before .before .before .before .before .before .before .before .before .before .before .args in
     verdict-met (ofSheet (a .sheet .now)) (a .guess) (Other _)
-    (judged-as (ofSheet (a .sheet .now)) (a .guess) _ _ (read (c .before .before .before .before .before .before .before .before .before .before)) (c .before .before .before .before .before .before .before .before .x .given .1) (c .before .before .before .before .verdict-on .ensures) (c .before .found .given .1))
+    (judged-as (ofSheet (a .sheet .now)) (a .guess) _ _ (read (c .before .before .before .before .before .before .before .before)) (c .before .before .before .before .before .before .x .given .1) (c .before .before .before .verdict-on .ensures) (c .before .found .given .1))
 
 returns-3 : tie.Need-returns-3
 returns-3 c =
-    let a = c .before .before .before .before .before .before .before .before .before .before .before .before .before .before .before .args in
+    let a = c .before .before .before .before .before .before .before .before .before .before .before .before .before .args in
     verdict-met (ofSheet (a .sheet .now)) (a .guess) (Verified _ _ _)
-    (judged-as (ofSheet (a .sheet .now)) (a .guess) _ _ (read (c .before .before .before .before .before .before .before .before .before .before)) (c .before .before .before .before .before .before .before .before .x .given .1) (c .before .before .before .before .verdict-on .ensures) (c .before .known .given .1))
+    (judged-as (ofSheet (a .sheet .now)) (a .guess) _ _ (read (c .before .before .before .before .before .before .before .before)) (c .before .before .before .before .before .before .x .given .1) (c .before .before .before .verdict-on .ensures) (c .before .known .given .1))
 
 returns-4 : tie.Need-returns-4
 returns-4 c =
@@ -88,7 +85,6 @@ verdict-spec =
     enum-known-x
     slice-aggregate-verdict-on
     cast-verdict-on
-    slice-aggregate-verdict-on-2
     verdict-on-requires
     enum-told
     enum-known-found

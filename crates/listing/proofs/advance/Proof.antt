@@ -25,12 +25,11 @@ same-length c = search needs
 
 returns : tie.Need-returns
 returns c =
-    let a = c .before .before .before .before .before .before .before .args in
-    let pre = c .before .before .before .before .before .before .before .pre in
+    let a = c .before .before .before .before .before .before .args in
     let seen = sym (c .before .before .covered-by .ensures) ∙ c .before .if1 .taken in
     let s = settingIn (a .x) (a .words .now) in (
       refl,
-      advanced s (a .tally) _ (a .records .now) _ (a .guess) Covered (omega (arith, pre .1 .1))
+      advanced s (a .tally) _ (a .records .now) _ (a .guess) Covered (omega (arith, c .before .before .before .before .before .before .pre .1 .1))
           (covered-as s (viewsIn (a .records .now) (a .tally .views)) (a .guess) seen) (c .count .ensures) (covered-noted (4 * a .tally .views) (a .records .now)),
     )
 
@@ -61,20 +60,17 @@ count-requires-2 c κs = search needs
 same-length-2 : tie.Need-same-length-2
 same-length-2 c = search needs
 
-same-length-3 : tie.Need-same-length-3
-same-length-3 c = search needs
-
 returns-2 : tie.Need-returns-2
 returns-2 c =
-    let a = c .before .before .before .before .before .before .before .before .before .before .before .before .before .before .before .before .args in
-    let pre = c .before .before .before .before .before .before .before .before .before .before .before .before .before .before .before .before .pre in
-    let seen = sym (c .before .before .before .before .before .before .before .before .before .before .before .covered-by .ensures) ∙ c .before .before .before .before .before .before .before .before .before .before .if1 .left in
-    let o = outcomeFrom (c .before .before .before .before .before .before .before .before .examine .result) in
+    let a = c .before .before .before .before .before .before .before .before .before .before .before .before .args in
+    let pre = c .before .before .before .before .before .before .before .before .before .before .before .before .pre in
+    let seen = sym (c .before .before .before .before .before .before .before .before .covered-by .ensures) ∙ c .before .before .before .before .before .before .before .if1 .left in
+    let o = outcomeFrom (c .before .before .before .before .before .before .examine .result) in
     let s = settingIn (a .x) (a .words .now) in
     let put = part-written (4 * a .tally .views) (a .records .now) (words (viewsBy o)) (c .before .before .before .note .ensures) in (
       ap length put ∙ placed-long (4 * a .tally .views) (a .records .now) (words (viewsBy o)) (omega (arith, words-few o, pre .1 .1)),
       advanced s (a .tally) _ (a .records .now) _ (a .guess) o (omega (arith, pre .1 .1))
-          (examined-as s (viewsIn (a .records .now) (a .tally .views)) (a .guess) seen (c .before .before .before .before .before .before .before .before .examine .ensures)) (c .count2 .ensures) put,
+          (examined-as s (viewsIn (a .records .now) (a .tally .views)) (a .guess) seen (c .before .before .before .before .before .before .examine .ensures)) (c .count2 .ensures) put,
     )
 
 pub advance-spec : {M : Type 1} → statement M
@@ -94,5 +90,4 @@ advance-spec =
     note-requires
     count-requires-2
     same-length-2
-    same-length-3
     returns-2)

@@ -18,18 +18,18 @@ use Rattle.listing.proofs.walk.Statement.{statement}
 use Rattle.listing.proofs.walk.Tie as tie
 
 -- after i entries of the list
-abbrev holds : (s : Setting) (n : ℕ) (order records₀ : List ℕ) (i : ℕ) (records room : List ℕ) → Tally → Type 0
-holds s n order records₀ i records room tally =
-    (i ≤ length order) × (length records ≡ length records₀) × (length room ≡ 32768) × (walkedIn tally records ≡ walk s (passed n order i))
+abbrev holds : (s : Setting) (n : ℕ) (order records₀ : List ℕ) (i : ℕ) (records : List ℕ) → Tally → Type 0
+holds s n order records₀ i records tally =
+    (i ≤ length order) × (length records ≡ length records₀) × (walkedIn tally records ≡ walk s (passed n order i))
 
-came : (P : List ℕ → List ℕ → Tally → Type 0) {r r′ q q′ : List ℕ} {t t′ : Tally} → r ≡ r′ → q ≡ q′ → t ≡ t′ → P r′ q′ t′ → P r q t
-came P {r} {r′} {q} {q′} {t} {t′} d e f p = subst (λ z. P z q t) (sym d) (subst (λ z. P r′ z t) (sym e) (subst (λ z. P r′ q′ z) (sym f) p))
+came : (P : List ℕ → Tally → Type 0) {r r′ : List ℕ} {t t′ : Tally} → r ≡ r′ → t ≡ t′ → P r′ t′ → P r t
+came P {r} {r′} {t} {t′} d e p = subst (λ z. P z t) (sym d) (subst (λ z. P r′ z) (sym e) p)
 
 abbrev Inv-loop : tie.InvT-loop
-Inv-loop words x order records₀ room₀ end tally₀ i₀ records room tally i = holds (settingIn x words) (x .negations) order records₀ i records room tally
+Inv-loop words x order records₀ end tally₀ i₀ records tally i = holds (settingIn x words) (x .negations) order records₀ i records tally
 
 abbrev μ-loop : tie.MeasureT-loop
-μ-loop words x order records₀ room₀ end tally₀ i₀ records room tally i = length order - i
+μ-loop words x order records₀ end tally₀ i₀ records tally i = length order - i
 
 cast-power : tie.Need-cast-power Inv-loop μ-loop
 cast-power c = omega (arith, c .before .before .before .before .pre .0 .few-negations)
@@ -40,7 +40,7 @@ power-requires c κs = omega (arith, c .before .before .before .before .pre .0 .
 loop-holds : tie.Need-loop-holds Inv-loop μ-loop
 loop-holds c =
     let a = c .before .before .before .before .before .args in
-    (omega arith, refl, search needs, along-first (settingIn (a .x) (a .words .now)) (a .x .negations) (a .order .now) (a .records .now))
+    (omega arith, refl, along-first (settingIn (a .x) (a .words .now)) (a .x .negations) (a .order .now) (a .records .now))
 
 mul-guess : tie.Need-mul-guess Inv-loop μ-loop
 mul-guess c = search needs
@@ -48,27 +48,23 @@ mul-guess c = search needs
 shared-slice-read-guess : tie.Need-shared-slice-read-guess Inv-loop μ-loop
 shared-slice-read-guess c = search needs
 
-slice-aggregate-advance : tie.Need-slice-aggregate-advance Inv-loop μ-loop
-slice-aggregate-advance c = search needs
-
 advance-requires : tie.Need-advance-requires Inv-loop μ-loop
 advance-requires c κs =
-    let l = c .before .before .before .before .before .loop in
-    let x = c .before .before .before .before .before .before in
-    let a = x .before .before .before .before .before .args in
-    let pre = x .before .before .before .before .before .pre in
+    let l = c .before .before .before .before .loop in
+    let a = c .before .before .before .before .before .before .before .before .before .before .args in
+    let pre = c .before .before .before .before .before .before .before .before .before .before .pre in
     let n = a .x .negations in
     let s = settingIn (a .x) (a .words .now) in
-    let told : l .i < length (a .order .now) = omega (arith, c .before .before .before .before .loop-test .taken) in
-    let below : getD (a .order .now) (l .i) 0 < 2 ^ n = omega (arith, c .before .before .if1 .taken, x .power .ensures) in
+    let told : l .i < length (a .order .now) = omega (arith, c .before .before .before .loop-test .taken) in
+    let below : getD (a .order .now) (l .i) 0 < 2 ^ n = omega (arith, c .before .if1 .taken, c .before .before .before .before .before .power .ensures) in
     let room = pow-mono (pre .0 .few-negations) in
-    let few = counts-few n (a .order .now) (pre .1) s (l .i) (l .inv .3) in
-    let fewer = views-fewer n (a .order .now) (pre .1) s (l .i) (l .inv .3) told below in (
-      (pre .0, below, search needs),
+    let few = counts-few n (a .order .now) (pre .1) s (l .i) (l .inv .2) in
+    let fewer = views-fewer n (a .order .now) (pre .1) s (l .i) (l .inv .2) told below in (
+      (pre .0, below),
       (
         omega (arith, few, room),
         omega (arith, fewer, room, l .inv .1, pre .2),
-        along-levels s n (a .order .now) (pre .1) (l .i) (l .tally) (l .records) (l .inv .3),
+        along-levels s n (a .order .now) (pre .1) (l .i) (l .tally) (l .records) (l .inv .2),
       ),
     )
 
@@ -81,25 +77,20 @@ loop-less c = search needs
 loop-again : tie.Need-loop-again Inv-loop μ-loop
 loop-again c =
     let l = c .before .before .before .loop in
-    let x = c .before .before .before .before in
-    let a = x .before .before .before .before .before .args in
+    let a = c .before .before .before .before .before .before .before .before .before .args in
     let told : l .i < length (a .order .now) = omega (arith, c .before .before .loop-test .taken) in
     let n = a .x .negations in
     let s = settingIn (a .x) (a .words .now) in
     let g = getD (a .order .now) (l .i) 0 in
     ⊎-elim
     (λ w.
-    let below : g < 2 ^ n = omega (arith, w .0 .taken, x .power .ensures) in
-    came (holds s n (a .order .now) (a .records .now) (l .i + 1)) (w .7) (w .8) (w .9) (
-      omega arith,
-      w .3 .ensures .0 ∙ l .inv .1,
-      w .6 .given,
-      along-more s n (a .order .now) (l .i) told (l .inv .3) below (w .3 .ensures .1),
-    ))
+    let below : g < 2 ^ n = omega (arith, w .0 .taken, c .before .before .before .before .power .ensures) in
+    came (holds s n (a .order .now) (a .records .now) (l .i + 1)) (w .5) (w .6)
+    (omega arith, w .2 .ensures .0 ∙ l .inv .1, along-more s n (a .order .now) (l .i) told (l .inv .2) below (w .2 .ensures .1)))
     (λ w.
-    let beyond : 2 ^ n ≤ g = omega (arith, w .0 .left, x .power .ensures) in
-    came (holds s n (a .order .now) (a .records .now) (l .i + 1)) (w .1) (w .2) (w .3)
-    (omega arith, l .inv .1, l .inv .2, along-same s n (a .order .now) (l .i) told (l .inv .3) beyond))
+    let beyond : 2 ^ n ≤ g = omega (arith, w .0 .left, c .before .before .before .before .power .ensures) in
+    came (holds s n (a .order .now) (a .records .now) (l .i + 1)) (w .1) (w .2)
+    (omega arith, l .inv .1, along-same s n (a .order .now) (l .i) told (l .inv .2) beyond))
     (c .if1 .came)
 
 same-length : tie.Need-same-length Inv-loop μ-loop
@@ -112,9 +103,9 @@ returns c =
     let l = c .before .loop in
     let n = a .x .negations in
     let s = settingIn (a .x) (a .words .now) in
-    let few = counts-few n (a .order .now) (start .pre .1) s (l .i) (l .inv .3) .0 in
+    let few = counts-few n (a .order .now) (start .pre .1) s (l .i) (l .inv .2) .0 in
     let end : l .i ≡ length (a .order .now) = omega (arith, l .inv .0, c .loop-test .left) in
-    let all = subst (λ i. walkedIn (l .tally) (l .records) ≡ walk s (passed n (a .order .now) i)) end (l .inv .3) in (
+    let all = subst (λ i. walkedIn (l .tally) (l .records) ≡ walk s (passed n (a .order .now) i)) end (l .inv .2) in (
       l .inv .1,
       (
         omega (arith, few, pow-mono (start .pre .0 .few-negations), start .pre .2),
@@ -133,7 +124,6 @@ walk-spec =
     loop-holds
     mul-guess
     shared-slice-read-guess
-    slice-aggregate-advance
     advance-requires
     add-i
     loop-less

@@ -22,6 +22,7 @@ use Rattle.semantics.specs.Definitions.Query.{answerBy}
 use Rattle.semantics.specs.Definitions.Desk.{deskCall, deskNumber, deskBytes}
 use Rattle.semantics.specs.Definitions.Program.{digits, namesOf, printed}
 use Rattle.semantics.specs.Definitions.Calendar.{entryAt, calendarOf, openAt, inForce, ofMinute}
+use Rattle.semantics.specs.Definitions.Pass.{gathered, onePass}
 use Rattle.semantics.specs.Walk.{walk}
 use Rattle.semantics.specs.Theorems.CalendarPlaces.{longestCalendar}
 use Rattle.semantics.specs.Examples.Sheets.{Listed, zeros, ten, kiln, sheet-6}
@@ -35,6 +36,7 @@ use Rattle.semantics.specs.Examples.Texts.{texts}
 use Rattle.semantics.specs.Examples.Calendars.{longestHours, calendars, openings, forces}
 use Rattle.semantics.specs.Examples.Minutes.{minuteListings}
 use Rattle.semantics.specs.Examples.Changed.{Changed, changed, LongestChanged, longest-changed}
+use Rattle.semantics.specs.Examples.Passes.{passes}
 
 -- the list of a setting by the definitions, and by the walk along the order
 abbrev listed : Setting → List View × Tally
@@ -79,9 +81,12 @@ pub record Computed : Type 0 where
   pub minute-listings-returned : map (λ p. listCall (ofMinute (p .0) (p .1) (p .2)) (p .3)) minuteListings ≡ map (λ p. p .4) minuteListings
   pub changes-returned : Changed
   pub longest-changes : LongestChanged
+  -- document 02, K2: what is gathered, by the walks over W and by the one pass
+  pub gathered-are : map (λ p. answer (λ s. gathered (s .atoms) (s .program (p .1))) (ofSheet (p .0))) passes ≡ map (λ p. accepted (p .2)) passes
+  pub passes-gather : map (λ p. answer (λ s. onePass (s .atoms) (s .program (p .1))) (ofSheet (p .0))) passes ≡ map (λ p. accepted (p .2)) passes
 
 pub computed : Computed
-unfolding ℕ-discrete ones onesIn every some keep flat upTo downFrom sameList setOf zeros times countAt nameByteAt nameAt maskAt ruleAt sections opened ofSheet check reductRule reduct reductAt smallerModel stable stableSets beliefSets guessFound verdict forGuess verdictCall beliefSetsCall steps contradicted order isWorldView covered tallyOf viewsAlong walk forAtom queryCall answerBy digits namesOf printed entryAt calendarOf inForce ofMinute
+unfolding ℕ-discrete ones onesIn every some keep flat upTo downFrom sameList setOf zeros times countAt nameByteAt nameAt maskAt ruleAt sections opened ofSheet check reductRule reduct reductAt smallerModel stable stableSets beliefSets guessFound verdict forGuess verdictCall beliefSetsCall steps contradicted order isWorldView covered tallyOf viewsAlong walk forAtom queryCall answerBy digits namesOf printed entryAt calendarOf inForce ofMinute onePass
 computed = record {
   checks = refl;
   lists = refl;
@@ -104,4 +109,6 @@ computed = record {
   minute-listings-returned = refl;
   changes-returned = changed;
   longest-changes = longest-changed;
+  gathered-are = refl;
+  passes-gather = refl;
 }

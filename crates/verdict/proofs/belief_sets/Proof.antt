@@ -1,9 +1,15 @@
 -- `verdict::belief_sets` meets its contract. Assumes nothing.
-use mathlib.Core.Path.{ap, _∙_}
+use Prim.Native.Nat.{_≤_}
+use mathlib.Core.Path.{_≡_, ap, ap₂, _∙_}
 use native.Mathlib.Omega.{arith}
+use lib.ListN.{length, take}
+use Rattle.semantics.specs.Words.{programIn}
 use Rattle.semantics.specs.Definitions.Stable.{stableSets}
 use Rattle.semantics.specs.Definitions.Verdict.{beliefSets}
+use Rattle.semantics.specs.Theorems.Stable.{belief-sets-few}
+use Rattle.guess.specs.Settings.{settingBy}
 use Rattle.guess.specs.Numbered.{few-sets}
+use Rattle.verdict.specs.Over.{over-long, over-first}
 use borrow.Author.Needs.{needs}
 use Rattle.verdict.proofs.belief_sets.Statement.{statement}
 use Rattle.verdict.proofs.belief_sets.Tie as tie
@@ -14,25 +20,31 @@ slice-aggregate-reduct c = search needs
 reduct-requires : tie.Need-reduct-requires
 reduct-requires c κs = search needs
 
-slice-aggregate-stable-sets : tie.Need-slice-aggregate-stable-sets
-slice-aggregate-stable-sets c = search needs
+slice-aggregate-gather : tie.Need-slice-aggregate-gather
+slice-aggregate-gather c = search needs
 
-stable-sets-requires : tie.Need-stable-sets-requires
-stable-sets-requires c κs =
-    let pre = c .before .before .before .before .before .before .before .pre in
-    (search needs, c .before .before .before .reduct .ensures .1 .0, pre .0 .few-atoms, omega (arith, few-sets (pre .0), pre .1))
+gather-requires : tie.Need-gather-requires
+gather-requires c κs = (search needs, c .before .before .before .reduct .ensures .1 .0, c .before .before .before .before .before .before .before .pre .0 .few-atoms)
 
 same-length : tie.Need-same-length
-same-length c = search needs
+same-length c = ap length (c .before .before .gather .ensures .1) ∙ over-long _ _
 
 returns : tie.Need-returns
 unfolding beliefSets
 returns c =
     let a = c .before .before .before .before .before .before .before .before .before .before .args in
     let pre = c .before .before .before .before .before .before .before .before .before .before .pre in
-    let sets = c .before .before .stable-sets .ensures in
-    let reduct = c .before .before .before .before .before .before .reduct .ensures .1 .1 in
-    (sets .0, (omega (arith, sets .1 .0, few-sets (pre .0), pre .1), sets .1 .1 ∙ ap (stableSets (a .x .atoms)) reduct))
+    let p = programIn (c .before .before .before .before .before .before .reduct .last .1 .1 .1 .0) (c .before .before .before .before .before .before .reduct .result) in
+    let w = stableSets (a .x .atoms) p in
+    let many : c .before .before .gather .result .sets ≡ length w = ap (λ y. y .sets) (c .before .before .gather .ensures .0) in
+    let fits : length w ≤ length (a .out .now) = omega (arith, belief-sets-few (settingBy (a .x) p) (a .guess), few-sets (pre .0), pre .1) in
+    let put = c .before .before .gather .ensures .1 in (
+      ap length put ∙ over-long _ _,
+      (
+        omega (arith, many, fits),
+        ap₂ take many put ∙ (over-first w (a .out .now) fits ∙ ap (stableSets (a .x .atoms)) (c .before .before .before .before .before .before .reduct .ensures .1 .1)),
+      ),
+    )
 
 pub belief-sets-spec : {M : Type 1} → statement M
 belief-sets-spec =
@@ -40,7 +52,7 @@ belief-sets-spec =
     (tie.spec
     slice-aggregate-reduct
     reduct-requires
-    slice-aggregate-stable-sets
-    stable-sets-requires
+    slice-aggregate-gather
+    gather-requires
     same-length
     returns)

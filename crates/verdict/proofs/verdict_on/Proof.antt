@@ -1,7 +1,6 @@
 -- `verdict::verdict_on` meets its contract. Assumes nothing.
 use mathlib.Core.Path.{_∙_}
-use native.Mathlib.Omega.{arith}
-use Rattle.guess.specs.Numbered.{few-of, few-sets}
+use Rattle.guess.specs.Numbered.{few-of}
 use Rattle.guess.specs.Settings.{verdict-by}
 use borrow.Author.Needs.{needs}
 use Rattle.verdict.proofs.verdict_on.Statement.{statement}
@@ -17,18 +16,12 @@ slice-aggregate-judge : tie.Need-slice-aggregate-judge
 slice-aggregate-judge c = search needs
 
 judge-requires : tie.Need-judge-requires
-judge-requires c κs =
-    let pre = c .before .before .before .before .before .before .before .pre in
-    (search needs, c .before .before .before .reduct .ensures .1 .0, few-of (pre .0), omega (arith, few-sets (pre .0), pre .1))
-
-same-length : tie.Need-same-length
-same-length c = search needs
+judge-requires c κs = (search needs, c .before .before .reduct .ensures .1 .0, few-of (c .before .before .before .before .before .pre))
 
 returns : tie.Need-returns
 returns c =
-    let start = c .before .before .before .before .before .before .before .before .before .before in
-    let reduct = c .before .before .before .before .before .before .reduct .ensures .1 .1 in
-    c .before .before .judge .ensures ∙ verdict-by (start .pre .0) (start .args .guess) reduct
+    let start = c .before .before .before .before .before .before in
+    c .judge .ensures ∙ verdict-by (start .pre) (start .args .guess) (c .before .before .before .reduct .ensures .1 .1)
 
 pub verdict-on-spec : {M : Type 1} → statement M
 verdict-on-spec =
@@ -38,5 +31,4 @@ verdict-on-spec =
     reduct-requires
     slice-aggregate-judge
     judge-requires
-    same-length
     returns)

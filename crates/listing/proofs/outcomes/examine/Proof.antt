@@ -18,21 +18,19 @@ slice-aggregate-contradicted c = search needs
 
 contradicted-requires : tie.Need-contradicted-requires
 contradicted-requires c κs =
-    let pre = c .before .before .before .before .before .before .pre in
+    let pre = c .before .before .before .before .before .pre in
     (search needs, few-of (pre .0), guess-below (pre .0) (pre .1))
 
 returns : tie.Need-returns
 returns c =
-    let start = c .before .before .before .before .before .before .before .before in
+    let start = c .before .before .before .before .before .before .before in
     ruled-as (start .pre .0) (start .args .guess) (c .before .before .before .before .reduct .ensures .1 .1) (sym (c .before .contradicted .ensures) ∙ c .if1 .taken)
 
 slice-aggregate-judge : tie.Need-slice-aggregate-judge
 slice-aggregate-judge c = search needs
 
 judge-requires : tie.Need-judge-requires
-judge-requires c κs =
-    let pre = c .before .before .before .before .before .before .before .before .before .before .pre in
-    (search needs, c .before .before .before .before .before .before .reduct .ensures .1 .0, few-of (pre .0), omega (arith, few-sets (pre .0), pre .2))
+judge-requires c κs = (search needs, c .before .before .before .before .before .reduct .ensures .1 .0, few-of (c .before .before .before .before .before .before .before .before .pre .0))
 
 enum-told : tie.Need-enum-told
 enum-told c = search needs
@@ -43,38 +41,29 @@ enum-told-2 c = search needs
 enum-known-known : tie.Need-enum-known-known
 enum-known-known c = search needs
 
-cast-t21 : tie.Need-cast-t21
-cast-t21 c =
-    let start = c .before .before .before .before .before .before .before .before .before .before .before .before .before .before .before .before in
-    let few = sets-fit (start .args .x) (start .args .guess) _ (c .before .before .before .before .before .judge .ensures) (c .before .known .given .1) in
+cast-t18 : tie.Need-cast-t18
+cast-t18 c =
+    let start = c .before .before .before .before .before .before .before .before .before .before .before .before in
+    let few = sets-fit (start .args .x) (start .args .guess) _ (c .before .before .before .judge .ensures) (c .before .known .given .1) in
     omega (arith, few, few-sets (start .pre .0))
-
-same-length : tie.Need-same-length
-same-length c = search needs
 
 returns-2 : tie.Need-returns-2
 returns-2 c =
-    let start = c .before .before .before .before .before .before .before .before .before .before .before .before .before .before .before in
-    let free = sym (c .before .before .before .before .before .before .before .before .contradicted .ensures) ∙ c .before .before .before .before .before .before .before .if1 .left in
-    judged-as (start .pre .0) (start .args .guess) (c .before .before .before .before .before .before .before .before .before .before .before .reduct .ensures .1 .1) free _ _ (c .before .before .before .before .judge .ensures) (c .enum-told .given .1)
-
-same-length-2 : tie.Need-same-length-2
-same-length-2 c = search needs
+    let start = c .before .before .before .before .before .before .before .before .before .before .before in
+    let free = sym (c .before .before .before .before .before .contradicted .ensures) ∙ c .before .before .before .before .if1 .left in
+    judged-as (start .pre .0) (start .args .guess) (c .before .before .before .before .before .before .before .before .reduct .ensures .1 .1) free _ _ (c .before .before .judge .ensures) (c .enum-told .given .1)
 
 returns-3 : tie.Need-returns-3
 returns-3 c =
-    let start = c .before .before .before .before .before .before .before .before .before .before .before .before .before .before .before in
-    let free = sym (c .before .before .before .before .before .before .before .before .contradicted .ensures) ∙ c .before .before .before .before .before .before .before .if1 .left in
-    judged-as (start .pre .0) (start .args .guess) (c .before .before .before .before .before .before .before .before .before .before .before .reduct .ensures .1 .1) free _ _ (c .before .before .before .before .judge .ensures) (c .enum-told2 .given .1)
-
-same-length-3 : tie.Need-same-length-3
-same-length-3 c = search needs
+    let start = c .before .before .before .before .before .before .before .before .before .before .before in
+    let free = sym (c .before .before .before .before .before .contradicted .ensures) ∙ c .before .before .before .before .if1 .left in
+    judged-as (start .pre .0) (start .args .guess) (c .before .before .before .before .before .before .before .before .reduct .ensures .1 .1) free _ _ (c .before .before .judge .ensures) (c .enum-told2 .given .1)
 
 returns-4 : tie.Need-returns-4
 returns-4 c =
-    let start = c .before .before .before .before .before .before .before .before .before .before .before .before .before .before .before .before in
-    let free = sym (c .before .before .before .before .before .before .before .before .before .contradicted .ensures) ∙ c .before .before .before .before .before .before .before .before .if1 .left in
-    judged-as (start .pre .0) (start .args .guess) (c .before .before .before .before .before .before .before .before .before .before .before .before .reduct .ensures .1 .1) free _ _ (c .before .before .before .before .before .judge .ensures) (c .before .known .given .1)
+    let start = c .before .before .before .before .before .before .before .before .before .before .before .before in
+    let free = sym (c .before .before .before .before .before .before .contradicted .ensures) ∙ c .before .before .before .before .before .if1 .left in
+    judged-as (start .pre .0) (start .args .guess) (c .before .before .before .before .before .before .before .before .before .reduct .ensures .1 .1) free _ _ (c .before .before .before .judge .ensures) (c .before .known .given .1)
 
 pub examine-spec : {M : Type 1} → statement M
 examine-spec =
@@ -90,10 +79,7 @@ examine-spec =
     enum-told
     enum-told-2
     enum-known-known
-    cast-t21
-    same-length
+    cast-t18
     returns-2
-    same-length-2
     returns-3
-    same-length-3
     returns-4)

@@ -1,0 +1,70 @@
+// One pass over the sets of atoms (document 02, K2).
+use sets::full;
+use sets::power;
+use stable::Tested;
+use stable::test_set;
+ghost use mathlib.Core.Path.{_≡_};
+ghost use Prim.Native.Nat.{_*_, _≤_};
+ghost use lib.ListN.{length, set};
+ghost use Rattle.semantics.specs.Words.{programRoom, programIn};
+ghost use Rattle.semantics.specs.Definitions.Sheet.{mostAtoms};
+ghost use Rattle.semantics.specs.Definitions.Stable.{stableSets};
+ghost use Rattle.semantics.specs.Definitions.Pass.{gathered};
+ghost use Rattle.verdict.specs.Verdicts.{gatheredBy};
+ghost use Rattle.verdict.specs.Over.{over};
+
+// What the pass gathers: the atoms that are known and those that are possible in the stable sets, how many these are, and how many sets
+// were tested.
+pub struct Gathered {
+    pub known: u16,
+    pub possible: u16,
+    pub sets: usize,
+    pub tests: usize,
+}
+
+// Writes i as word n, where there is such a word.
+fn put(i: u16, n: usize, out: &mut [u16])
+    ensures { λ _. ⌜ now (out .exit) ≡ set (now (out .entry)) n i ⌝ }
+{
+    if n < out.len() {
+        out[n] = i;
+    }
+}
+
+// Known and possible in one pass, which tests each set of atoms once; and the stable sets themselves, by rising number, as many as there
+// are words lent. The rule that failed last is asked first (at the beginning rule 0): it often fails again.
+pub fn gather(program: &[u16], rules: usize, atoms: usize, out: &mut [u16]) -> Gathered
+    requires { ⌜ (4 * rules ≤ length (now program)) × (rules ≤ programRoom) × (atoms ≤ mostAtoms) ⌝ }
+    ensures { λ r. ⌜ gatheredBy r ≡ gathered atoms (programIn (now (program .entry)) rules) ⌝ }
+    ensures { λ r. ⌜ now (out .exit) ≡ over (stableSets atoms (programIn (now (program .entry)) rules)) (now (out .entry)) ⌝ }
+{
+    let end = power(atoms as u16);
+    let mut room = [0u16; 128];
+    let mut known = full(atoms as u16);
+    let mut possible = 0;
+    let mut sets = 0;
+    let mut tests = 0;
+    let mut first = 0;
+    let mut i = 0;
+    while i != end {
+        match test_set(program, rules, i, first, &mut room[..]) {
+            Tested::Stable => {
+                put(i, sets, &mut out[..]);
+                known = known & i;
+                possible = possible | i;
+                sets += 1;
+            }
+            Tested::Unstable(rule) => {
+                first = rule;
+            }
+        }
+        tests += 1;
+        i += 1;
+    }
+    Gathered {
+        known,
+        possible,
+        sets,
+        tests,
+    }
+}
