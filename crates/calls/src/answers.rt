@@ -24,6 +24,15 @@ fn refused(number: u8, place: usize, at: usize, out: &mut [u8]) -> usize
     field(place, a, out)
 }
 
+// Accepted, with one number.
+fn accepted(x: usize, at: usize, out: &mut [u8]) -> usize
+    requires { ⌜ (at ≤ length (now out)) × (1024 ≤ length (now out)) ⌝ }
+    ensures { λ r. ⌜ r ≤ length (now (out .exit)) ⌝ }
+{
+    let a = field(0, at, out);
+    field(x, a, out)
+}
+
 // Three numbers.
 fn three(x: usize, y: usize, z: usize, at: usize, out: &mut [u8]) -> usize
     requires { ⌜ (at ≤ length (now out)) × (1024 ≤ length (now out)) ⌝ }
@@ -56,23 +65,18 @@ fn judged(r: Judged, at: usize, out: &mut [u8]) -> usize
     ensures { λ r. ⌜ r ≤ length (now (out .exit)) ⌝ }
 {
     match r {
-        Judged::Empty => {
-            let a = field(0, at, out);
-            field(0, a, out)
-        }
+        Judged::Empty => accepted(0, at, out),
         Judged::Other { found } => {
-            let a = field(0, at, out);
-            let b = field(1, a, out);
-            field(found as usize, b, out)
+            let a = accepted(1, at, out);
+            field(found as usize, a, out)
         }
         Judged::Verified {
             known,
             possible,
             sets,
         } => {
-            let a = field(0, at, out);
-            let b = field(2, a, out);
-            three(known as usize, possible as usize, sets, b, out)
+            let a = accepted(2, at, out);
+            three(known as usize, possible as usize, sets, a, out)
         }
         Judged::Refused { number, place } => refused(number, place, at, out),
     }
@@ -83,10 +87,7 @@ fn counted(r: Counted, at: usize, out: &mut [u8]) -> usize
     ensures { λ r. ⌜ r ≤ length (now (out .exit)) ⌝ }
 {
     match r {
-        Counted::Accepted { count } => {
-            let a = field(0, at, out);
-            field(count, a, out)
-        }
+        Counted::Accepted { count } => accepted(count, at, out),
         Counted::Refused { number, place } => refused(number, place, at, out),
     }
 }
@@ -117,18 +118,10 @@ fn queried(r: Queried, at: usize, out: &mut [u8]) -> usize
     ensures { λ r. ⌜ r ≤ length (now (out .exit)) ⌝ }
 {
     match r {
-        Queried::Yes => {
-            let a = field(0, at, out);
-            field(0, a, out)
-        }
-        Queried::No => {
-            let a = field(0, at, out);
-            field(1, a, out)
-        }
-        Queried::Open => {
-            let a = field(0, at, out);
-            field(2, a, out)
-        }
+        Queried::Yes => accepted(0, at, out),
+        Queried::No => accepted(1, at, out),
+        Queried::Open => accepted(2, at, out),
+        Queried::None => accepted(3, at, out),
         Queried::Refused { number, place } => refused(number, place, at, out),
     }
 }

@@ -11,7 +11,7 @@
 // 1 verdict            sheet, argument: guess                          0: empty; 1 and found; 2, known, possible and number of sets  as lent
 // 2 belief sets        sheet, argument: guess                          their number                                                  words
 // 3 list               sheet                                           views, covered, ruled, tested, empty, other                   words
-// 4 query              sheet, argument: atom                           0: yes; 1: no; 2: open                                        as lent
+// 4 query              sheet, argument: atom                           0: yes; 1: no; 2: open; 3: none                               as lent
 // 5 list at a minute   sheet, companion: calendar, argument: minute    as 3                                                          words
 // 6 minutes of change  sheet, companion: calendar                      their number                                                  words
 //

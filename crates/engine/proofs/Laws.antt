@@ -1,14 +1,11 @@
 -- What the calls return, from what the steps of the code answer. Assumes nothing.
 use Prim.Native.Nat.{ℕ, _*_, _^_, _≤_, _<_}
 use mathlib.Core.Path.{_≡_, sym, ap, _∙_, subst}
-use mathlib.Core.Bool.{Bool, true, false, not}
 use mathlib.Core.Logic.{inl}
 use mathlib.Core.List.{List}
 use native.Mathlib.Omega.{arith}
 use lib.ListN.{length}
 use lib.Pow.{pow-mono}
-use Rattle.sets.specs.Lists.{every}
-use Rattle.sets.specs.Sets.{_∈?_}
 use Rattle.semantics.specs.Definitions.Sheet.{byteAt}
 use Rattle.semantics.specs.Definitions.Setting.{Setting, k}
 use Rattle.semantics.specs.Definitions.Check.{mostNegations, check}
@@ -17,7 +14,7 @@ use Rattle.semantics.specs.Definitions.Verdict.{verdict, beliefSets}
 use Rattle.semantics.specs.Definitions.Listing.{Tally, tallyOf, View, listing}
 use Rattle.semantics.specs.Definitions.Calls.{forGuess, forAtom, verdictCall, setsInto, beliefSetsCall, Result, resultOf, resultInto, recordsNeed, listCall, recordsOf, queryCall}
 use Rattle.semantics.specs.Definitions.Calendar.{ofMinute, changesCall}
-use Rattle.semantics.specs.Definitions.Query.{Yes, No, Open, answerBy}
+use Rattle.semantics.specs.Definitions.Query.{answerBy}
 use Rattle.semantics.specs.Theorems.Layout.{places-bytes}
 use Rattle.semantics.specs.Theorems.Returned.{fits-limited, short-limited}
 use Rattle.semantics.specs.Theorems.Calls.{GuessOf, for-guess-accepted, verdict-refused, verdict-is, sets-given, sets-refused}
@@ -117,26 +114,6 @@ module _ (from : Returned Setting) (a : ℕ) (words : List ℕ) (r : Source) (h 
 
   pub query-turned-back : {number place : ℕ} → r ≡ Refused number place → refusal number place ≡ queryCall from a
   query-turned-back told = sym (query-refused from a _ _ .1 (reads-refused (forAtom from a) words r h told))
-
--- the answer by the two tests of the records
-module _ (vs : List View) (a : ℕ) where
-  abbrev Everywhere : Bool → Type 0
-  Everywhere b = b ≡ every (λ v. a ∈? v .known) vs
-
-  abbrev Nowhere : Bool → Type 0
-  Nowhere b = b ≡ every (λ v. not (a ∈? v .possible)) vs
-
-  pub answers-yes : Everywhere true → Yes ≡ answerBy vs a
-  unfolding answerBy
-  answers-yes e = rw (sym e)
-
-  pub answers-no : Everywhere false → Nowhere true → No ≡ answerBy vs a
-  unfolding answerBy
-  answers-no e n = rw (sym e, sym n)
-
-  pub answers-open : Everywhere false → Nowhere false → Open ≡ answerBy vs a
-  unfolding answerBy
-  answers-open e n = rw (sym e, sym n)
 
 -- ---- the listing: r is what was read
 module _ (from : Returned Setting) (words : List ℕ) (r : Source) (h : Reads from r words) (room : ℕ) where

@@ -39,11 +39,12 @@ abbrev pub listed : Listed → Returned Tally
 listed (listings.Accepted views covered ruled tested empty other) = accepted (tallied views covered ruled tested empty other)
 listed (listings.Refused number place) = refusal number place
 
--- ""yes"", ""no"", ""open""
+-- ""yes"", ""no"", ""open"", ""none""
 abbrev pub queried : Queried → Returned asked.Answer
 queried queries.Yes = accepted asked.Yes
 queried queries.No = accepted asked.No
 queried queries.Open = accepted asked.Open
+queried queries.None = accepted asked.None
 queried (queries.Refused number place) = refusal number place
 
 -- What an answer means fixes it: no two answers mean the same.
@@ -69,6 +70,7 @@ answerQueried : Returned asked.Answer → Queried
 answerQueried (accepted asked.Yes) = queries.Yes
 answerQueried (accepted asked.No) = queries.No
 answerQueried (accepted asked.Open) = queries.Open
+answerQueried (accepted asked.None) = queries.None
 answerQueried (refusal number place) = queries.Refused number place
 
 checked-back : (r : Checked) → answerChecked (checked r) ≡ r
@@ -98,6 +100,7 @@ unfolding answerQueried
 queried-back queries.Yes = refl
 queried-back queries.No = refl
 queried-back queries.Open = refl
+queried-back queries.None = refl
 queried-back (queries.Refused number place) = refl
 
 pub checked-fixed : (r q : Checked) → checked r ≡ checked q → r ≡ q

@@ -1,4 +1,4 @@
--- What the call `query` answers, read over all world views. Assumes nothing.
+-- What the call `query` answers, read over the guesses and all world views. Assumes nothing.
 use Prim.Native.Nat.{ℕ, _≤_}
 use mathlib.Core.Path.{_≡_, refl, sym, ap, _∙_}
 use mathlib.Core.Logic.{_↔_, inl, inr}
@@ -6,20 +6,23 @@ use Rattle.semantics.specs.Definitions.Setting.{Setting}
 use Rattle.semantics.specs.Definitions.Returned.{Returned, accepted, refusal}
 use Rattle.semantics.specs.Definitions.Query as asked
 use Rattle.semantics.specs.Definitions.Calls.{forAtom, queryCall}
-use Rattle.semantics.specs.Theorems.Query.{KnownInAll, PossibleInNone, query-yes, query-no, query-open}
+use Rattle.semantics.specs.Theorems.WorldView.{SomeView, NoneVerifiable}
+use Rattle.semantics.specs.Theorems.Query.{KnownInAll, PossibleInNone, query-none, query-yes, query-no, query-open}
 use Rattle.semantics.specs.Theorems.QueryCall.{AtomOf, for-atom-refused, query-refused, query-is, is-query}
 use Rattle.engine.specs.declared.Queried.{Queried}
-use Rattle.engine.specs.declared.Queried.the-variants.{Yes, No, Open, Refused}
+use Rattle.engine.specs.declared.Queried.the-variants.{Yes, No, Open, None, Refused}
 use Rattle.engine.specs.Answers.{queried, queried-fixed}
 
 -- of an atom: q is what `query` answers. The call's source is `from`: a setting, or the refusal that comes before.
 pub record QueryDemand (from : Returned Setting) (a : ℕ) (q : Queried) : Type 0 where
-  -- "yes" exactly if it is known in every world view
-  pub yes-exactly : (q ≡ Yes) ↔ ((s : Setting) × AtomOf from a s × KnownInAll s a)
-  -- otherwise "no" exactly if it is possible in none
-  pub no-exactly : (q ≡ No) ↔ ((s : Setting) × AtomOf from a s × ((KnownInAll s a → ⊥) × PossibleInNone s a))
-  -- otherwise "open"
-  pub open-exactly : (q ≡ Open) ↔ ((s : Setting) × AtomOf from a s × ((KnownInAll s a → ⊥) × (PossibleInNone s a → ⊥)))
+  -- "none" exactly when there is no world view, that is, when no guess is reduct-verifiable
+  pub none-exactly : (q ≡ None) ↔ ((s : Setting) × AtomOf from a s × NoneVerifiable s)
+  -- "yes" exactly if there is one and the atom is known in every one
+  pub yes-exactly : (q ≡ Yes) ↔ ((s : Setting) × AtomOf from a s × (SomeView s × KnownInAll s a))
+  -- otherwise "no" exactly if there is one and the atom is possible in none
+  pub no-exactly : (q ≡ No) ↔ ((s : Setting) × AtomOf from a s × (SomeView s × ((KnownInAll s a → ⊥) × PossibleInNone s a)))
+  -- otherwise, if there is one, "open"
+  pub open-exactly : (q ≡ Open) ↔ ((s : Setting) × AtomOf from a s × (SomeView s × ((KnownInAll s a → ⊥) × (PossibleInNone s a → ⊥))))
   -- a refusal that comes before is the answer; then "10, 0" where "queried atom number not below the atom count"
   pub refused-before : (number place : ℕ) → from ≡ refusal number place → q ≡ Refused number place
   pub atom-refused : (s : Setting) → from ≡ accepted s → s .atoms ≤ a → q ≡ Refused 10 0
@@ -40,9 +43,10 @@ module _ (from : Returned Setting) (a : ℕ) (q : Queried) (answered : queried q
 
   pub query-demand : QueryDemand from a q
   query-demand = record {
-    yes-exactly = exactly Yes asked.Yes (λ s. KnownInAll s a) refl (λ s. query-yes s a);
-    no-exactly = exactly No asked.No (λ s. (KnownInAll s a → ⊥) × PossibleInNone s a) refl (λ s. query-no s a);
-    open-exactly = exactly Open asked.Open (λ s. (KnownInAll s a → ⊥) × (PossibleInNone s a → ⊥)) refl (λ s. query-open s a);
+    none-exactly = exactly None asked.None NoneVerifiable refl (λ s. query-none s a);
+    yes-exactly = exactly Yes asked.Yes (λ s. SomeView s × KnownInAll s a) refl (λ s. query-yes s a);
+    no-exactly = exactly No asked.No (λ s. SomeView s × ((KnownInAll s a → ⊥) × PossibleInNone s a)) refl (λ s. query-no s a);
+    open-exactly = exactly Open asked.Open (λ s. SomeView s × ((KnownInAll s a → ⊥) × (PossibleInNone s a → ⊥))) refl (λ s. query-open s a);
     refused-before = λ number place e. refuses (for-atom-refused from a number place .1 (inl e));
     atom-refused = λ s e l. refuses (for-atom-refused from a 10 0 .1 (inr (s, e, l, refl, refl)));
   }

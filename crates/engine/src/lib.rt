@@ -4,13 +4,12 @@ mod in_order;
 mod lent;
 mod minute;
 mod source;
+mod yes_no_open;
 
 use calendar::minutes_of_change;
 use in_order::list_from;
 use in_order::list_in_order;
 use lent::write;
-use listing::atoms::known_in_all;
-use listing::atoms::possible_in_none;
 use minute::Scheduled;
 use minute::at_minute;
 use minute::with_calendar;
@@ -23,6 +22,7 @@ use source::of_sheet;
 use verdict::Verdict;
 use verdict::belief_sets as belief_sets_on;
 use verdict::verdict_on;
+use yes_no_open::yes_no_open;
 ghost use mathlib.Core.Path.{_≡_};
 ghost use lib.ListN.{length};
 ghost use Rattle.semantics.specs.Definitions.Check.{check as checkOf, ofSheet};
@@ -90,11 +90,13 @@ pub enum Listed {
     },
 }
 
-// What the query of an atom answers, or a refusal by its number and place.
+// What the query of an atom answers: `None` where there is no world view; else whether the atom is known in every one, possible in none, or
+// neither. Or a refusal by its number and place.
 pub enum Queried {
     Yes,
     No,
     Open,
+    None,
     Refused { number: u8, place: usize },
 }
 
@@ -217,13 +219,10 @@ pub fn query(sheet: &[u8], atom: u32) -> Queried
         Source::Accepted(x) => {
             let mut records = [0u16; 16384];
             let t = list_in_order(&words[..], x, &mut records[..]);
-            if known_in_all(&records[..], t.views, atom as u16) {
-                return Queried::Yes;
+            if t.views == 0 {
+                return Queried::None;
             }
-            if possible_in_none(&records[..], t.views, atom as u16) {
-                return Queried::No;
-            }
-            Queried::Open
+            yes_no_open(&records[..], t.views, atom as u16)
         }
         Source::Refused(number, place) => Queried::Refused { number, place },
     }

@@ -205,6 +205,10 @@ module _ {A : Type 0} where
   dec-member [] = dec-false (λ p. nowhere (p .1))
   dec-member (x ∷ l) = dec-true (x, here)
 
+  pub dec-null : (l : List A) → Decides ((x : A) × (x among l) → ⊥) (null l)
+  dec-null [] = dec-true (λ p. nowhere (p .1))
+  dec-null (x ∷ l) = dec-false (λ n. n (x, here))
+
 pub among-map : {A B : Type 0} (f : A → B) {y : B} (l : List A) → y among map f l ↔ ((x : A) × (x among l) × (y ≡ f x))
 among-map f [] = ((λ m. absurd (nowhere m)), λ p. absurd (nowhere (p .1)))
 among-map f (x ∷ l) =

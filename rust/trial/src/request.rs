@@ -111,5 +111,6 @@ fn query_value(answer: Answer) -> u32 {
         Answer::Yes => 0,
         Answer::No => 1,
         Answer::Open => 2,
+        Answer::None => 3,
     }
 }

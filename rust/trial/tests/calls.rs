@@ -17,23 +17,36 @@ const MIDDLE: Shape = Shape { atoms: (3, 7), rules: (3, 16), negations: 6, liter
 const MANY: Shape = Shape { atoms: (1, 4), rules: (30, 64), negations: 3, literals: 4 };
 
 /// Runs the requests through the program and compares line by line; `tail` follows them and is to print nothing.
-/// Answers how often each refusal came (0: accepted).
-fn compare(requests: &[Request], tail: &[u8], piece: usize, context: &str) -> [usize; 13] {
+/// Answers the lines.
+fn compare(requests: &[Request], tail: &[u8], piece: usize, context: &str) -> Vec<Line> {
     let mut input: Vec<u8> = requests.iter().flat_map(Request::bytes).collect();
     input.extend(tail);
     let printed = String::from_utf8(output("calls", input, piece)).expect("calls prints text");
     let mut lines = printed.split_terminator('\n');
-    let mut numbers = [0; 13];
-    for request in requests {
-        let line = request.line();
+    let owed: Vec<Line> = requests.iter().map(Request::line).collect();
+    for (request, line) in requests.iter().zip(&owed) {
         let bytes = || format!("sheet {}, companion {}", hex(&request.sheet), hex(&request.companion));
         let shown = || format!("{context}; {request:?}; {}", bytes());
         assert_eq!(lines.next(), Some(line.to_string().as_str()), "{}", shown());
-        numbers[line.numbers[0] as usize] += 1;
     }
     assert_eq!(lines.next(), None, "no line after the last request's; {context}; tail {}", hex(tail));
     assert!(printed.is_empty() || printed.ends_with('\n'), "each line ends with byte 10; {context}");
+    owed
+}
+
+/// How often each refusal came (0: accepted).
+fn by_number(lines: &[Line]) -> [usize; 13] {
+    let mut numbers = [0; 13];
+    lines.iter().for_each(|line| numbers[line.numbers[0] as usize] += 1);
     numbers
+}
+
+/// How often each answer to a query came: yes, no, open and none.
+fn by_answer(lines: &[Line]) -> [usize; 4] {
+    let mut answers = [0; 4];
+    let accepted = lines.iter().filter(|line| line.call == QUERY && line.numbers[0] == 0);
+    accepted.for_each(|line| answers[line.numbers[1] as usize] += 1);
+    answers
 }
 
 fn random_bytes(random: &mut Random) -> Vec<u8> {
@@ -124,18 +137,19 @@ fn calendar_refused(request: &Request) -> Option<usize> {
     opened.calendar(&request.companion).err().map(|refusal| refusal.number as usize)
 }
 
-/// 3,200 random requests of one call, in three streams; each refusal that the call has must occur, of a calendar too.
+/// 3,200 random requests of one call, in three streams; each refusal that the call has must occur, of a calendar too,
+/// and each answer to a query.
 fn many(call: u8, refusals: &[usize]) {
     let seed = seed();
     let mut random = Random::new(seed, 100 + u64::from(call));
     let context = format!("seed {seed}");
-    let (mut numbers, mut of_calendars) = ([0; 13], [0; 13]);
+    let (mut lines, mut of_calendars) = (Vec::new(), [0; 13]);
     for count in [100, 1_500, 1_600] {
         let requests: Vec<Request> = (0..count).map(|_| random_request(&mut random, call)).collect();
-        let some = compare(&requests, &[], 1 << 16, &context);
-        numbers.iter_mut().zip(some).for_each(|(sum, count)| *sum += count);
+        lines.extend(compare(&requests, &[], 1 << 16, &context));
         requests.iter().filter_map(calendar_refused).for_each(|number| of_calendars[number] += 1);
     }
+    let numbers = by_number(&lines);
     println!("call {call}: seed {seed}, 3200 requests; accepted and refused by number {numbers:?}");
     for (number, &count) in numbers.iter().enumerate() {
         let enough = if number == 0 || refusals.contains(&number) { count >= 5 } else { count == 0 };
@@ -144,6 +158,11 @@ fn many(call: u8, refusals: &[usize]) {
     if refusals.contains(&11) {
         let enough = [1, 2, 6, 11].iter().all(|&number: &usize| of_calendars[number] >= 5);
         assert!(enough, "refusals of calendars by number {of_calendars:?}; {context}");
+    }
+    if call == QUERY {
+        let answers = by_answer(&lines);
+        println!("answers yes, no, open and none {answers:?}");
+        assert!(answers.iter().all(|&count| count >= 5), "answers yes, no, open and none {answers:?}; {context}");
     }
 }
 
@@ -197,7 +216,7 @@ fn the_largest_requests() {
     requests.push(request(&long, MOST_CELLS));
     requests.push(Request { call: CHANGES, companion: vec![0; MOST_COMPANION], ..request(&kiln(), MOST_CELLS) });
     requests.extend(kiln_requests());
-    let numbers = compare(&requests, &[], 4_096, "the largest requests");
+    let numbers = by_number(&compare(&requests, &[], 4_096, "the largest requests"));
     assert_eq!([numbers[0], numbers[9], numbers[6]], [3 + 7, 1, 2]);
 }
 

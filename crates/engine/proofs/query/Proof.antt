@@ -1,13 +1,14 @@
 -- `engine::query` meets its contract. Assumes nothing.
-use mathlib.Core.Path.{sym, ap, _∙_}
+use mathlib.Core.Path.{ap, _∙_}
 use native.Mathlib.Omega.{arith}
 use Rattle.semantics.specs.Definitions.Check.{ofSheet}
 use Rattle.semantics.specs.Definitions.Returned.{accepted}
 use Rattle.semantics.specs.Definitions.Calls.{forAtom}
 use Rattle.listing.specs.Records.{viewsIn}
-use Rattle.engine.specs.declared.Queried.the-variants.{Yes, No, Open, Refused}
+use Rattle.engine.specs.declared.Queried.the-variants.{None, Refused}
 use Rattle.engine.specs.Sources.{Reads}
-use Rattle.engine.proofs.Laws.{outlined, is-atom, answers-yes, answers-no, answers-open, answers-query, query-turned-back, query-met}
+use Rattle.engine.proofs.Laws.{outlined, is-atom, answers-query, query-turned-back, query-met}
+use Rattle.engine.proofs.Answered.{answers-none, answers-three}
 use borrow.Author.Needs.{needs}
 use Rattle.engine.proofs.query.Statement.{statement}
 use Rattle.engine.proofs.query.Tie as tie
@@ -41,71 +42,48 @@ list-in-order-requires c κs =
     let a = c .before .before .before .before .before .before .before .before .before .before .args in
     (outlined (forAtom (ofSheet (a .sheet .now)) (a .atom)) _ _ (read (c .before .before .before .before .before)) (c .before .before .before .x .given .1), search needs)
 
-slice-aggregate-known-in-all : tie.Need-slice-aggregate-known-in-all
-slice-aggregate-known-in-all c = search needs
-
-cast-known-in-all : tie.Need-cast-known-in-all
-cast-known-in-all c =
-    let a = c .before .before .before .before .before .before .before .before .before .before .before .before .before .args in
-    let h = is-atom (ofSheet (a .sheet .now)) (a .atom) _ _ (read (c .before .before .before .before .before .before .before .before)) (c .before .before .before .before .before .before .x .given .1) in
-    omega (arith, h)
-
-known-in-all-requires : tie.Need-known-in-all-requires
-known-in-all-requires c κs =
-    let a = c .before .before .before .before .before .before .before .before .before .before .before .before .before .args in
-    let h = is-atom (ofSheet (a .sheet .now)) (a .atom) _ _ (read (c .before .before .before .before .before .before .before .before)) (c .before .before .before .before .before .before .x .given .1) in
-    (search needs, h)
-
 returns : tie.Need-returns
 returns c =
-    let a = c .before .before .before .before .before .before .before .before .before .before .before .before .before .before .before .args in
+    let a = c .before .before .before .before .before .before .before .before .before .before .before .before .before .before .args in
     let from = ofSheet (a .sheet .now) in
-    let w = c .before .before .before .before .list-in-order in
-    let vs = viewsIn (w .last .1 .1 .0) (w .result .views) in
-    query-met from (a .atom) Yes
-    (ap accepted (answers-yes vs (a .atom) (sym (c .if1 .taken) ∙ c .before .known-in-all .ensures))
-    ∙ answers-query from (a .atom) _ _ (read (c .before .before .before .before .before .before .before .before .before .before)) (c .before .before .before .before .before .before .before .before .x .given .1) vs (w .ensures .1 .1 .1))
+    let w = c .before .before .before .list-in-order in
+    let records = w .last .1 .1 .0 in
+    let n = w .result .views in
+    query-met from (a .atom) None
+    (ap accepted (answers-none records n (a .atom) (c .if1 .taken))
+    ∙ answers-query from (a .atom) _ _ (read (c .before .before .before .before .before .before .before .before .before)) (c .before .before .before .before .before .before .before .x .given .1) (viewsIn records n) (w .ensures .1 .1 .1))
 
-slice-aggregate-possible-in-none : tie.Need-slice-aggregate-possible-in-none
-slice-aggregate-possible-in-none c = search needs
+slice-aggregate-yes-no-open : tie.Need-slice-aggregate-yes-no-open
+slice-aggregate-yes-no-open c = search needs
 
-cast-possible-in-none : tie.Need-cast-possible-in-none
-cast-possible-in-none c =
-    let a = c .before .before .before .before .before .before .before .before .before .before .before .before .before .before .before .before .args in
-    let h = is-atom (ofSheet (a .sheet .now)) (a .atom) _ _ (read (c .before .before .before .before .before .before .before .before .before .before .before)) (c .before .before .before .before .before .before .before .before .before .x .given .1) in
+cast-yes-no-open : tie.Need-cast-yes-no-open
+cast-yes-no-open c =
+    let a = c .before .before .before .before .before .before .before .before .before .before .before .before .before .before .before .args in
+    let h = is-atom (ofSheet (a .sheet .now)) (a .atom) _ _ (read (c .before .before .before .before .before .before .before .before .before .before)) (c .before .before .before .before .before .before .before .before .x .given .1) in
     omega (arith, h)
 
-possible-in-none-requires : tie.Need-possible-in-none-requires
-possible-in-none-requires c κs =
-    let a = c .before .before .before .before .before .before .before .before .before .before .before .before .before .before .before .before .args in
-    let h = is-atom (ofSheet (a .sheet .now)) (a .atom) _ _ (read (c .before .before .before .before .before .before .before .before .before .before .before)) (c .before .before .before .before .before .before .before .before .before .x .given .1) in
+yes-no-open-requires : tie.Need-yes-no-open-requires
+yes-no-open-requires c κs =
+    let a = c .before .before .before .before .before .before .before .before .before .before .before .before .before .before .before .args in
+    let h = is-atom (ofSheet (a .sheet .now)) (a .atom) _ _ (read (c .before .before .before .before .before .before .before .before .before .before)) (c .before .before .before .before .before .before .before .before .x .given .1) in
     (search needs, h)
-
-returns-2 : tie.Need-returns-2
-returns-2 c =
-    let a = c .before .before .before .before .before .before .before .before .before .before .before .before .before .before .before .before .before .before .args in
-    let from = ofSheet (a .sheet .now) in
-    let w = c .before .before .before .before .before .before .before .list-in-order in
-    let vs = viewsIn (w .last .1 .1 .0) (w .result .views) in
-    query-met from (a .atom) No
-    (ap accepted (answers-no vs (a .atom) (sym (c .before .before .before .if1 .left) ∙ c .before .before .before .before .known-in-all .ensures) (sym (c .if2 .taken) ∙ c .before .possible-in-none .ensures))
-    ∙ answers-query from (a .atom) _ _ (read (c .before .before .before .before .before .before .before .before .before .before .before .before .before)) (c .before .before .before .before .before .before .before .before .before .before .before .x .given .1) vs (w .ensures .1 .1 .1))
 
 enum-known-number : tie.Need-enum-known-number
 enum-known-number c = search needs
 
+returns-2 : tie.Need-returns-2
+returns-2 c =
+    let a = c .before .before .before .before .before .before .before .before .before .before .before .before .before .before .before .before .args in
+    let from = ofSheet (a .sheet .now) in
+    let w = c .before .before .before .before .before .list-in-order in
+    let records = w .last .1 .1 .0 in
+    let n = w .result .views in
+    query-met from (a .atom) _
+    (c .yes-no-open .ensures ∙ ap accepted (answers-three records n (a .atom) (c .before .before .if1 .left))
+    ∙ answers-query from (a .atom) _ _ (read (c .before .before .before .before .before .before .before .before .before .before .before)) (c .before .before .before .before .before .before .before .before .before .x .given .1) (viewsIn records n) (w .ensures .1 .1 .1))
+
 returns-3 : tie.Need-returns-3
 returns-3 c =
-    let a = c .before .before .before .before .before .before .before .before .before .before .before .before .before .before .before .before .before .before .args in
-    let from = ofSheet (a .sheet .now) in
-    let w = c .before .before .before .before .before .before .before .list-in-order in
-    let vs = viewsIn (w .last .1 .1 .0) (w .result .views) in
-    query-met from (a .atom) Open
-    (ap accepted (answers-open vs (a .atom) (sym (c .before .before .before .if1 .left) ∙ c .before .before .before .before .known-in-all .ensures) (sym (c .if2 .left) ∙ c .before .possible-in-none .ensures))
-    ∙ answers-query from (a .atom) _ _ (read (c .before .before .before .before .before .before .before .before .before .before .before .before .before)) (c .before .before .before .before .before .before .before .before .before .before .before .x .given .1) vs (w .ensures .1 .1 .1))
-
-returns-4 : tie.Need-returns-4
-returns-4 c =
     let a = c .before .before .before .before .before .before .before .before .args in
     query-met (ofSheet (a .sheet .now)) (a .atom) (Refused _ _) (query-turned-back (ofSheet (a .sheet .now)) (a .atom) _ _ (read (c .before .before .before)) (c .before .number .given .1))
 
@@ -120,14 +98,10 @@ query-spec =
     slice-aggregate-list-in-order
     slice-aggregate-list-in-order-2
     list-in-order-requires
-    slice-aggregate-known-in-all
-    cast-known-in-all
-    known-in-all-requires
     returns
-    slice-aggregate-possible-in-none
-    cast-possible-in-none
-    possible-in-none-requires
-    returns-2
+    slice-aggregate-yes-no-open
+    cast-yes-no-open
+    yes-no-open-requires
     enum-known-number
-    returns-3
-    returns-4)
+    returns-2
+    returns-3)

@@ -18,7 +18,7 @@ use Rattle.semantics.specs.Definitions.Calls.{forGuess, forAtom, verdict
 use Rattle.semantics.specs.Definitions.Propagation.{steps, contradicted}
 use Rattle.semantics.specs.Definitions.Order.{order}
 use Rattle.semantics.specs.Definitions.Listing.{View, Tally, isWorldView, covered, tallyOf, viewsAlong, listing}
-use Rattle.semantics.specs.Definitions.Query.{answerBy}
+use Rattle.semantics.specs.Definitions.Query.{yesNoOpen, answerBy}
 use Rattle.semantics.specs.Definitions.Desk.{deskCall, deskNumber, deskBytes}
 use Rattle.semantics.specs.Definitions.Program.{digits, namesOf, printed}
 use Rattle.semantics.specs.Definitions.Calendar.{entryAt, calendarOf, openAt, inForce, ofMinute}
@@ -86,7 +86,7 @@ pub record Computed : Type 0 where
   pub passes-gather : map (λ p. answer (λ s. onePass (s .atoms) (s .program (p .1))) (ofSheet (p .0))) passes ≡ map (λ p. accepted (p .2)) passes
 
 pub computed : Computed
-unfolding ℕ-discrete ones onesIn every some keep flat upTo downFrom sameList setOf zeros times countAt nameByteAt nameAt maskAt ruleAt sections opened ofSheet check reductRule reduct reductAt smallerModel stable stableSets beliefSets guessFound verdict forGuess verdictCall beliefSetsCall steps contradicted order isWorldView covered tallyOf viewsAlong walk forAtom queryCall answerBy digits namesOf printed entryAt calendarOf inForce ofMinute onePass
+unfolding ℕ-discrete ones onesIn every some keep flat upTo downFrom sameList setOf zeros times countAt nameByteAt nameAt maskAt ruleAt sections opened ofSheet check reductRule reduct reductAt smallerModel stable stableSets beliefSets guessFound verdict forGuess verdictCall beliefSetsCall steps contradicted order isWorldView covered tallyOf viewsAlong walk forAtom queryCall yesNoOpen answerBy digits namesOf printed entryAt calendarOf inForce ofMinute onePass
 computed = record {
   checks = refl;
   lists = refl;

@@ -61,6 +61,10 @@ module _ where
   abbrev pub sheet-3 : Listed
   sheet-3 = entry (sheet (a ∷ []) (rule 1 0 0 0 0 1 0 0 ∷ [])) (numbers 1 1 1) [] (tallied 0 0 1 1 1 0)
 
+  -- a ← not M a
+  abbrev pub sheet-5 : Listed
+  sheet-5 = entry (sheet (a ∷ []) (rule 1 0 0 0 0 0 0 1 ∷ [])) (numbers 1 1 1) [] (tallied 0 0 1 1 1 0)
+
   -- a ← not K b; b ← not K a
   abbrev pub sheet-6 : Listed
   sheet-6 =
@@ -71,6 +75,10 @@ module _ where
   abbrev pub sheet-7 : Listed
   sheet-7 = entry (sheet (a ∷ []) (rule 1 0 0 1 0 0 0 0 ∷ [])) (numbers 1 1 0) (view 0 0 1 2 ∷ []) (tallied 1 0 0 1 0 0)
 
+  -- a; ← a
+  abbrev pub sheet-9 : Listed
+  sheet-9 = entry (sheet (a ∷ []) (rule 1 0 0 0 0 0 0 0 ∷ rule 0 1 0 0 0 0 0 0 ∷ [])) (numbers 1 2 0) [] (tallied 0 0 1 0 0 0)
+
   abbrev pub ten : List Listed
   ten =
       -- "Bytes 0, 0"
@@ -79,14 +87,12 @@ module _ where
       ∷ sheet-3
       -- a ← M a
       ∷ entry (sheet (a ∷ []) (rule 1 0 0 0 0 0 1 0 ∷ [])) (numbers 1 1 1) (view 1 1 1 1 ∷ []) (tallied 1 1 0 1 0 0)
-      -- a ← not M a
-      ∷ entry (sheet (a ∷ []) (rule 1 0 0 0 0 0 0 1 ∷ [])) (numbers 1 1 1) [] (tallied 0 0 1 1 1 0)
+      ∷ sheet-5
       ∷ sheet-6
       ∷ sheet-7
       -- a or b
       ∷ entry (sheet (a ∷ b ∷ []) (rule 3 0 0 0 0 0 0 0 ∷ [])) (numbers 2 1 0) (view 0 0 3 2 ∷ []) (tallied 1 0 0 1 0 0)
-      -- a; ← a
-      ∷ entry (sheet (a ∷ []) (rule 1 0 0 0 0 0 0 0 ∷ rule 0 1 0 0 0 0 0 0 ∷ [])) (numbers 1 2 0) [] (tallied 0 0 1 0 0 0)
+      ∷ sheet-9
       -- c ← M a; a ← b; b ← a
       ∷ entry (sheet (a ∷ b ∷ c ∷ []) (rule 4 0 0 0 0 0 1 0 ∷ rule 1 2 0 0 0 0 0 0 ∷ rule 2 1 0 0 0 0 0 0 ∷ [])) (numbers 3 3 1)
       (view 0 0 0 1 ∷ []) (tallied 1 0 0 2 0 1)

@@ -12,8 +12,8 @@ use Rattle.semantics.specs.Definitions.Setting.{Setting, k}
 use Rattle.semantics.specs.Definitions.Verdict.{verified, verdict}
 use Rattle.semantics.specs.Definitions.Order.{order}
 use Rattle.semantics.specs.Definitions.Listing.{isWorldView, tallyOf, View, viewOf, viewsAlong, listing}
-use Rattle.semantics.specs.Theorems.Verdict.{Verifiable, definition-5, verified-verdict}
-use Rattle.semantics.specs.Theorems.WorldView.{WorldView, definition-6, maximal-superset}
+use Rattle.semantics.specs.Theorems.Verdict.{definition-5, verified-verdict}
+use Rattle.semantics.specs.Theorems.WorldView.{WorldView, NoneVerifiable, definition-6, maximal-superset}
 use Rattle.semantics.specs.Theorems.Tally.{Number, number-only, tally-of}
 use Rattle.semantics.specs.Theorems.Order.{Before, Enumerates, order-sorted, order-enumerates}
 use Rattle.semantics.specs.Theorems.Walk.{count-along}
@@ -53,7 +53,7 @@ module _ (s : Setting) where
     views-falling = views-pairwise (λ g h. size h ≤ size g) l (en .larger-first)
 
     -- none exactly when no guess is reduct-verifiable
-    pub views-none : (viewsAlong s l ≡ []) ↔ ((g : ℕ) → g < 2 ^ k s → Verifiable s g → ⊥)
+    pub views-none : (viewsAlong s l ≡ []) ↔ NoneVerifiable s
     views-none = (
       λ e g h v. let (x, lx, _, w) = maximal-superset s g h v in no-members (viewsAlong s l) .0 e (viewOf s x) (among-views .1 (x, lx, w, refl)),
       λ f. no-members (viewsAlong s l) .1 (λ v m. let (g, h, w, _) = among-views .0 m in f g h (w .verifiable)),
@@ -72,7 +72,7 @@ pub record ViewsOf (s : Setting) (vs : List View) : Type 0 where
   -- larger guesses first, equal sizes by rising number
   pub ordered : Pairwise (λ v w. Before (v .guess) (w .guess)) vs
   -- none exactly when no guess is reduct-verifiable
-  pub none-exactly : (vs ≡ []) ↔ ((g : ℕ) → g < 2 ^ k s → Verifiable s g → ⊥)
+  pub none-exactly : (vs ≡ []) ↔ NoneVerifiable s
 
 pub views-of : (s : Setting) → ViewsOf s (listing s)
 views-of s =

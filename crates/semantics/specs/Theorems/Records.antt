@@ -11,8 +11,8 @@ use Rattle.sets.specs.Lists.{flat, getD-among, among-place, no-members}
 use Rattle.sets.specs.Pairwise.{pairwise-places}
 use Rattle.semantics.specs.Definitions.Setting.{Setting, k}
 use Rattle.semantics.specs.Definitions.Listing.{View, viewOf, recordOf, words}
-use Rattle.semantics.specs.Theorems.Verdict.{Verifiable, Verified, verified-means}
-use Rattle.semantics.specs.Theorems.WorldView.{WorldView}
+use Rattle.semantics.specs.Theorems.Verdict.{Verified, verified-means}
+use Rattle.semantics.specs.Theorems.WorldView.{WorldView, NoneVerifiable}
 use Rattle.semantics.specs.Theorems.Order.{Before}
 use Rattle.semantics.specs.Theorems.Listing.{view-verdict, ViewsOf, gets-one}
 
@@ -35,7 +35,7 @@ pub record RecordsOf (s : Setting) (n : ℕ) (buffer : List ℕ) : Type 0 where
   -- larger guesses first, equal sizes by rising number
   pub in-order : (i j : ℕ) → i < j → j < n → Before (guessAt buffer i) (guessAt buffer j)
   -- none exactly when no guess is reduct-verifiable
-  pub none-exactly : (n ≡ 0) ↔ ((g : ℕ) → g < 2 ^ k s → Verifiable s g → ⊥)
+  pub none-exactly : (n ≡ 0) ↔ NoneVerifiable s
 
 -- the guess of a record is its first word
 first-word : (buffer : List ℕ) (m : ℕ) → getD (take 4 (drop m buffer)) 0 0 ≡ getD buffer m 0

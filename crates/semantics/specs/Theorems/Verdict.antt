@@ -8,7 +8,7 @@ use native.Mathlib.Omega.{arith}
 use lib.Dec.{eqb}
 use lib.ListN.{length}
 use Rattle.sets.specs.Decides.{Decides, decided, dec-iff, dec-not, dec-and, dec-eq}
-use Rattle.sets.specs.Lists.{_among_, null, dec-some, dec-member}
+use Rattle.sets.specs.Lists.{_among_, null, dec-some, dec-member, dec-null}
 use Rattle.sets.specs.Pairwise.{Pairwise, sorted-same}
 use Rattle.sets.specs.Sets.{_∈_, Below, _∈?_}
 use Rattle.sets.specs.Members.{dec-∈, ∈-below, ∈-ext, ∈-⋂, ∈-⋃, ∈-setOf-dec, setOf-below}
@@ -117,7 +117,7 @@ module _ (s : Setting) (g : ℕ) where
   unfolding verdict
   dec-empty =
       let w = beliefSets s g in
-      rw (tests _ _ _ _ (null w) (not (eqb (guessFound s w) g)) .0) (subst (Decides _) (Bool·not-not (null w)) (dec-not (dec-member w)))
+      rw (tests _ _ _ _ (null w) (not (eqb (guessFound s w) g)) .0) (dec-null w)
 
   pub empty-verdict : isEmpty (verdict s g) ≡ true → verdict s g ≡ empty
   empty-verdict = go (verdict s g)

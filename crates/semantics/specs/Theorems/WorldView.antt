@@ -2,7 +2,7 @@
 use Prim.Native.Nat.{ℕ, zero, suc, _+_, _^_, _≤_, _<_}
 use mathlib.Core.Path.{_≡_, refl}
 use mathlib.Core.Bool.{Bool, true, false, not, _&&_}
-use mathlib.Core.Logic.{⊎-elim}
+use mathlib.Core.Logic.{_↔_, ⊎-elim}
 use native.Mathlib.Omega.{arith}
 use Rattle.sets.specs.Decides.{Decides, decided, dec-one, dec-iff, dec-not, dec-and}
 use Rattle.sets.specs.Lists.{some, dec-any}
@@ -20,6 +20,14 @@ module _ (s : Setting) where
   pub record WorldView (g : ℕ) : Type 0 where
     pub verifiable : Verifiable s g
     pub maximal : (h : ℕ) → h < 2 ^ k s → g ⊂ h → Verifiable s h → ⊥
+
+  -- there is a world view
+  abbrev pub SomeView : Type 0
+  SomeView = (g : ℕ) × (g < 2 ^ k s) × WorldView g
+
+  -- no guess is reduct-verifiable
+  abbrev pub NoneVerifiable : Type 0
+  NoneVerifiable = (g : ℕ) → g < 2 ^ k s → Verifiable s g → ⊥
 
   -- a reduct-verifiable proper superset
   abbrev Above : ℕ → Type 0
@@ -50,6 +58,13 @@ module _ (s : Setting) where
 
   pub maximal-superset : (g : ℕ) → g < 2 ^ k s → Verifiable s g → (h : ℕ) × (h < 2 ^ k s) × (g ⊆ h) × WorldView h
   maximal-superset g l v = climb (k s) g (omega arith) l v
+
+  -- there is no world view exactly when no guess is reduct-verifiable
+  pub no-view : NoneVerifiable ↔ (SomeView → ⊥)
+  no-view = (
+    λ f p. let (g, l, w) = p in f g l (w .verifiable),
+    λ n g l v. let (h, lh, _, w) = maximal-superset g l v in n (h, lh, w),
+  )
 
   -- "covered: proper subset of a world view's guess"
   abbrev pub Covered : ℕ → Type 0

@@ -8,6 +8,7 @@ mod hand;
 mod hours;
 mod listed;
 mod lists;
+mod queries;
 pub mod sheets;
 pub mod small;
 pub mod twelve;
@@ -101,8 +102,18 @@ impl Case {
 
 /// Every case, some requests more than once.
 fn all() -> impl Iterator<Item = Case> {
-    let of_sheets = [hand::cases(), check::cases(), small::cases(), guesses::cases(), lists::cases(), twelve::cases()];
-    of_sheets.into_iter().chain([calendar::cases(), hours::cases()]).flatten()
+    let parts: [fn() -> Vec<Case>; 9] = [
+        hand::cases,
+        check::cases,
+        small::cases,
+        queries::cases,
+        guesses::cases,
+        lists::cases,
+        twelve::cases,
+        calendar::cases,
+        hours::cases,
+    ];
+    parts.into_iter().flat_map(|part| part())
 }
 
 /// An unknown call ends the program, though a request follows: nothing is printed. This comes last.

@@ -1,4 +1,4 @@
-//! The calls of document 01 and of K1 of document 02, with their refusals and what they leave in lent buffers.
+//! The calls of document 01 and of K1 and K5 of document 02, with their refusals and what they leave in lent buffers.
 
 use super::calendar::{self, Calendar, WEEK};
 use super::guess::Guess;
@@ -14,6 +14,7 @@ pub enum Answer {
     Yes,
     No,
     Open,
+    None,
 }
 
 /// A sheet that passed the checks 1 to 7. Its listing is computed at most once.
@@ -109,14 +110,16 @@ impl Opened {
         Ok(())
     }
 
-    /// What the world views say of an atom; refusal 10. "A sheet without world views answers yes."
+    /// What the world views say of an atom; refusal 10. "[..] "none", given exactly when there is no world view".
     pub fn query(&self, atom: u32) -> Result<Answer, Refusal> {
         let atom = atom as usize;
         if atom >= self.names.len() {
             return Err(Refusal::new(10, 0));
         }
         let views = &self.listing().views;
-        Ok(if views.iter().all(|view| has(view.known, atom)) {
+        Ok(if views.is_empty() {
+            Answer::None
+        } else if views.iter().all(|view| has(view.known, atom)) {
             Answer::Yes
         } else if !views.iter().any(|view| has(view.possible, atom)) {
             Answer::No

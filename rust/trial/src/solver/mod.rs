@@ -1,4 +1,4 @@
-//! The second solver: every call of document 01 and of K1 of document 02, from their definitions.
+//! The second solver: every call of document 01 and of K1 and K5 of document 02, from their definitions.
 //!
 //! Stable sets come from a branching search with propagation, minimality from a second search for a smaller model;
 //! every guess is judged by itself, and world views are the verified guesses that are maximal among all verified ones.
