@@ -4,7 +4,7 @@ use mathlib.Core.Path.{_≡_, sym, ap, ap₂, _∙_}
 use mathlib.Core.List.{List, []}
 use native.Mathlib.Omega.{arith}
 use lib.ListN.{length}
-use Rattle.sets.specs.Decides.{dec-eq, is-true, is-false}
+use Rattle.sets.specs.Decides.{unequal, dec-eq, is-true, is-false}
 use Rattle.semantics.specs.Definitions.Reading.{Reading, field, refused, times}
 use Rattle.semantics.specs.Definitions.Sheet.{countAt}
 use Rattle.semantics.specs.Definitions.Calendar.{Entry, mostEntries, entryAt, calendarOf}
@@ -17,7 +17,7 @@ use Rattle.calendar.specs.Steps.{stepOf, AllEntered, ReadInto, was-field
 
 -- a calendar that is refused
 refuses-so : {r : Reading (List Entry)} {k p : ℕ} {f : Step} (words : List ℕ) → r ≡ refused k p → f ≡ Refused k p → ReadInto r f words
-refuses-so words e told = (told ∙ sym (ap (stepOf (λ es _. length es)) e), λ es end d. let z : _≡_ {A = ℕ} 0 1 = cc in absurd (omega arith))
+refuses-so words e told = (told ∙ sym (ap (stepOf (λ es _. length es)) e), λ es end d. unequal cc)
 
 -- f is what the count answers
 module _ (c : List ℕ) (rules : ℕ) {f : Step} (answered : f ≡ stepOf (λ n _. n) (countAt c mostEntries 0)) where

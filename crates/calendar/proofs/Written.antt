@@ -8,6 +8,7 @@ use borrow.Author.Tests.{lt-ltb, le-ltb, le-leb, lt-leb}
 use lib.Dec.{leb, eqb}
 use lib.ListN.{length, take, set, length-set}
 use lib.Seq.{getD-set-same, getD-set-other, take-set-le}
+use Rattle.sets.specs.Decides.{unequal}
 use Rattle.sets.specs.Lists.{_among_, upTo, among-map, among-upTo, map-upTo-same}
 use Rattle.semantics.specs.Definitions.Reading.{Reading, field, refused, times}
 use Rattle.semantics.specs.Definitions.Sheet.{byteAt, wordAt}
@@ -113,13 +114,13 @@ module _ (c : List ℕ) (rules at : ℕ) (words : List ℕ) (i : ℕ) where
     unfolding entryAt
     refused-so bad =
         let e : entryAt c rules at ≡ refused 11 at = rw (there, sym (ap (proper rules) same) ∙ bad) in
-        (sym (ap (stepOf (λ _ next. next)) e), λ x next d. let z : _≡_ {A = ℕ} 0 1 = cc in absurd (omega arith))
+        (sym (ap (stepOf (λ _ next. next)) e), λ x next d. unequal cc)
 
   pub short-so : leb (at + 5) (length c) ≡ false → Entered (entryAt c rules at) (Refused 1 (length c)) words i
   unfolding entryAt
   short-so short =
       let e : entryAt c rules at ≡ refused 1 (length c) = rw short in
-      (sym (ap (stepOf (λ _ next. next)) e), λ x next d. let z : _≡_ {A = ℕ} 0 1 = cc in absurd (omega arith))
+      (sym (ap (stepOf (λ _ next. next)) e), λ x next d. unequal cc)
 
 -- ---- the loop over the entries of the bytes c
 module _ (c : List ℕ) (rules n : ℕ) where
@@ -140,7 +141,7 @@ module _ (c : List ℕ) (rules n : ℕ) where
       refuses {k} {p} told =
           let e = was-refused (λ _ next. next) (entryAt c rules at) (answered .0) told in
           let d : whole ≡ refused k p = stops (λ _. entryAt c rules) n i at (entriesIn out i) (reached .left) h e in
-          (told ∙ sym (ap (stepOf (λ _ next. next)) d), λ es end f. let z : _≡_ {A = ℕ} 0 1 = cc in absurd (omega arith))
+          (told ∙ sym (ap (stepOf (λ _ next. next)) d), λ es end f. unequal cc)
 
       pub turned : take (3 * i) after ≡ take (3 * i) out → {next : ℕ} → step ≡ Got next → Reached after next (i + 1)
       turned stays {next} told =

@@ -2,8 +2,8 @@
 use Prim.Native.Nat.{ℕ}
 use mathlib.Core.Path.{_≡_, refl, sym, _∙_}
 use mathlib.Core.List.{List}
-use native.Mathlib.Omega.{arith}
 use lib.ListN.{length}
+use Rattle.sets.specs.Decides.{unequal}
 use Rattle.semantics.specs.Definitions.Reading.{Reading, field, refused}
 use Rattle.semantics.specs.Definitions.Calendar.{Entry}
 use Rattle.calendar.specs.declared.entries.Step.{Step}
@@ -34,13 +34,13 @@ module _ {A : Type 0} (number : A → ℕ → ℕ) (r : Reading A) {f : Step} (a
     where
       go : (q : Reading A) → stepOf number q ≡ Got v → (x : A) × (next : ℕ) × (q ≡ field x next) × (v ≡ number x next)
       go (field x next) e = (x, next, refl, cc)
-      go (refused k p) e = let z : _≡_ {A = ℕ} 0 1 = cc in absurd (omega arith)
+      go (refused k p) e = unequal cc
 
   pub was-refused : {k p : ℕ} → f ≡ Refused k p → r ≡ refused k p
   was-refused {k} {p} told = go r (sym answered ∙ told)
     where
       go : (q : Reading A) → stepOf number q ≡ Refused k p → q ≡ refused k p
-      go (field x next) e = let z : _≡_ {A = ℕ} 0 1 = cc in absurd (omega arith)
+      go (field x next) e = unequal cc
       go (refused n q) e =
           let a : n ≡ k = cc in
           let b : q ≡ p = cc in

@@ -9,7 +9,7 @@ use native.Mathlib.Omega.{arith}
 use lib.Dec.{leb, eqb}
 use lib.ListN.{length, getD, set}
 use borrow.Author.Tests.{leb-true, leb-false}
-use Rattle.sets.specs.Decides.{Decides, decided, dec-eq, is-true, is-false}
+use Rattle.sets.specs.Decides.{unequal, Decides, decided, dec-eq, is-true, is-false}
 use Rattle.sets.specs.Sets.{_meets?_, _∪_, _∖_, ∅}
 use Rattle.semantics.specs.Words.{wordOf, ruleIn}
 use Rattle.guess.specs.declared.reduct.Acted.{Acted}
@@ -45,15 +45,15 @@ module _ (u p : ℕ) where
 
   -- a literal that joins holds
   holds : (b : Bool) (a m : ℕ) {to w : ℕ} → cond b Delete (Join a m) ≡ Join to w → (b ≡ false) × (a < 4 → to < 4)
-  holds true a m z = let q : _≡_ {A = ℕ} 0 1 = cc in absurd (omega arith)
+  holds true a m z = unequal cc
   holds false a m z = (refl, λ l. joins a m l z)
 
   fails : (b : Bool) (a m : ℕ) → cond b Delete (Join a m) ≡ Delete → b ≡ true
   fails true a m z = refl
-  fails false a m z = let q : _≡_ {A = ℕ} 0 1 = cc in absurd (omega arith)
+  fails false a m z = unequal cc
 
   stays : (a m : ℕ) → Join a m ≡ Delete → ⊥
-  stays a m z = let q : _≡_ {A = ℕ} 0 1 = cc in omega arith
+  stays a m z = unequal cc
 
   -- one of four words is joined
   pub joins-below : (i mask : ℕ) {to w : ℕ} → i < 8 → actedOn u p i mask ≡ Join to w → to < 4

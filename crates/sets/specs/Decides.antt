@@ -7,6 +7,10 @@ use native.Mathlib.Omega.{arith}
 use lib.Dec.{T, eqb, leb}
 use borrow.Author.Tests.{eqb-true, eqb-false, leb-true, leb-false}
 
+-- Anything, where unequal constructors would be equal: `cc` then finds that 0 is 1.
+pub unequal : {A : Type 0} → _≡_ {A = ℕ} 0 1 → A
+unequal e = absurd (omega arith)
+
 -- b is the answer to the question P.
 pub record Decides (P : Type 0) (b : Bool) : Type 0 where
   pub yes : b ≡ true → P

@@ -192,19 +192,19 @@ module _ (x y z : ℕ) where
 
 -- ---- a set that has every member of x and lacks every member of y
 pub has-and-lacks : (i x y : ℕ) → eqb (x ∖ i ∪ y ∩ i) ∅ ≡ (x ⊆? i) && not (y meets? i)
-has-and-lacks i x y = dec-one (dec-iff (none-wrong, wrong) (dec-eq (x ∖ i ∪ y ∩ i) ∅)) (dec-and (dec-⊆ x i) (dec-not (dec-meets y i)))
+has-and-lacks i x y = dec-one (dec-iff (from-empty, to-empty) (dec-eq (x ∖ i ∪ y ∩ i) ∅)) (dec-and (dec-⊆ x i) (dec-not (dec-meets y i)))
   where
-    out : (a : ℕ) → x ∖ i ∪ y ∩ i ≡ ∅ → (a ∈ x ∖ i) ⊎ (a ∈ y ∩ i) → ⊥
-    out a e m = ∈-∅ (subst (λ z. a ∈ z) e (∈-∪ a (x ∖ i) (y ∩ i) .1 m))
+    nowhere-in : (a : ℕ) → x ∖ i ∪ y ∩ i ≡ ∅ → (a ∈ x ∖ i) ⊎ (a ∈ y ∩ i) → ⊥
+    nowhere-in a e m = ∈-∅ (subst (λ z. a ∈ z) e (∈-∪ a (x ∖ i) (y ∩ i) .1 m))
 
-    none-wrong : x ∖ i ∪ y ∩ i ≡ ∅ → (x ⊆ i) × (Meets y i → ⊥)
-    none-wrong e = (
-      record { into = λ {a} m. ⊎-elim (λ k. k) (λ n. absurd (out a e (inl (∈-∖ a x i .1 (m, n))))) (decided (dec-∈ a i)) },
-      λ m. out (m .common) e (inr (∈-∩ (m .common) y i .1 (m .left, m .right))),
+    from-empty : x ∖ i ∪ y ∩ i ≡ ∅ → (x ⊆ i) × (Meets y i → ⊥)
+    from-empty e = (
+      record { into = λ {a} m. ⊎-elim (λ k. k) (λ n. absurd (nowhere-in a e (inl (∈-∖ a x i .1 (m, n))))) (decided (dec-∈ a i)) },
+      λ m. nowhere-in (m .common) e (inr (∈-∩ (m .common) y i .1 (m .left, m .right))),
     )
 
-    wrong : (x ⊆ i) × (Meets y i → ⊥) → x ∖ i ∪ y ∩ i ≡ ∅
-    wrong p = ∈-ext (x ∖ i ∪ y ∩ i) ∅ (λ a. (
+    to-empty : (x ⊆ i) × (Meets y i → ⊥) → x ∖ i ∪ y ∩ i ≡ ∅
+    to-empty p = ∈-ext (x ∖ i ∪ y ∩ i) ∅ (λ a. (
       λ m. absurd (⊎-elim (λ k. let (l, n) = ∈-∖ a x i .0 k in n (p .0 .into l))
           (λ k. let (l, n) = ∈-∩ a y i .0 k in p .1 (record { common = a; left = l; right = n })) (∈-∪ a (x ∖ i) (y ∩ i) .0 m)),
       λ m. absurd (∈-∅ m),

@@ -8,7 +8,7 @@ use native.Mathlib.Omega.{arith}
 use borrow.Author.Tests.{lt-ltb, le-ltb}
 use lib.Dec.{ltb}
 use lib.ListN.{length, getD}
-use Rattle.sets.specs.Decides.{decided, dec-le}
+use Rattle.sets.specs.Decides.{unequal, decided, dec-le}
 use Rattle.semantics.specs.Definitions.Reading.{field}
 use Rattle.semantics.specs.Definitions.Sheet.{Sheet, longestSheet, mostRules}
 use Rattle.semantics.specs.Definitions.Check.{opened}
@@ -87,8 +87,7 @@ module _ (s : List ℕ) (at rules : ℕ) (begin : RulesBegin s at rules) where
           ⊎-elim
           (λ h.
           let none = fetched-none s x end e number (omega arith) in
-          let z : _≡_ {A = ℕ} 0 1 = cc in
-          absurd (omega arith))
+          unequal cc)
           (λ h.
           let (rule, _, l) = fetched-rule s x end e number (omega arith) in
           let p : place ≡ x .rulesAt + 16 * number = cc in
@@ -103,6 +102,5 @@ module _ (s : List ℕ) (at rules : ℕ) (begin : RulesBegin s at rules) where
           (λ h. h)
           (λ h.
           let (rule, _, _) = fetched-rule s x end e number (omega arith) in
-          let z : _≡_ {A = ℕ} 0 1 = cc in
-          absurd (omega arith))
+          unequal cc)
           (decided (dec-le rules number))

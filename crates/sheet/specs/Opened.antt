@@ -1,8 +1,8 @@
 -- What opening a sheet answers, and what the answer says. Assumes nothing.
 use Prim.Native.Nat.{ℕ}
 use mathlib.Core.Path.{_≡_, refl}
-use native.Mathlib.Omega.{arith}
 use lib.ListN.{length}
+use Rattle.sets.specs.Decides.{unequal}
 use Rattle.semantics.specs.Definitions.Reading.{Reading, field, refused}
 use Rattle.semantics.specs.Definitions.Sheet.{Sheet, atoms}
 use Rattle.semantics.specs.Definitions.Setting.{k}
@@ -30,8 +30,8 @@ openedOf (refused number place) = Refused number place
 
 pub opened-as : (r : Reading Sheet) {x : Contents} → openedOf r ≡ Accepted x → (y : Sheet) × (end : ℕ) × (r ≡ field y end) × (x ≡ contents y)
 opened-as (field y end) e = (y, end, refl, cc)
-opened-as (refused number place) e = let z : _≡_ {A = ℕ} 0 1 = cc in absurd (omega arith)
+opened-as (refused number place) e = unequal cc
 
 pub opened-refused : (r : Reading Sheet) {number place : ℕ} → openedOf r ≡ Refused number place → r ≡ refused number place
-opened-refused (field x end) e = let z : _≡_ {A = ℕ} 0 1 = cc in absurd (omega arith)
+opened-refused (field x end) e = unequal cc
 opened-refused (refused n p) e = cc

@@ -6,7 +6,7 @@ use mathlib.Core.Logic.{_↔_, ⊎-elim}
 use native.Mathlib.Omega.{arith}
 use lib.Dec.{leb, eqb}
 use lib.ListN.{length, length-map}
-use Rattle.sets.specs.Decides.{is-true, is-false, dec-eq, dec-le}
+use Rattle.sets.specs.Decides.{unequal, is-true, is-false, dec-eq, dec-le}
 use Rattle.sets.specs.Lists.{_among_, upTo, among-map, among-upTo, length-upTo, map-upTo-suc}
 use Rattle.semantics.specs.Definitions.Reading.{Reading, field, refused, _then_, require, times}
 use Rattle.semantics.specs.Definitions.Sheet.{byteAt, countAt}
@@ -126,7 +126,7 @@ module _ (c : List ℕ) (rules : ℕ) where
   pub calendar-refused-exactly : (number place : ℕ) → calendarOf c rules ≡ refused number place ↔ CalendarRefuses c rules number place
   calendar-refused-exactly number place = (
     λ e. ⊎-elim
-        (λ (es, end, h). let d = sym (accepts es end h) ∙ e in let z : _≡_ {A = ℕ} 0 1 = cc in absurd (omega arith))
+        (λ (es, end, h). let d = sym (accepts es end h) ∙ e in unequal cc)
         (λ (m, p, h).
         let d = sym (refuses m p h) ∙ e in
         let n : m ≡ number = cc in
@@ -142,7 +142,7 @@ module _ (c : List ℕ) (rules : ℕ) where
         (λ (es, m, h).
         let (same, last) = field-same (sym (accepts es m h) ∙ e) in
         rw (same, last) h)
-        (λ (m, p, h). let d = sym (refuses m p h) ∙ e in let z : _≡_ {A = ℕ} 0 1 = cc in absurd (omega arith))
+        (λ (m, p, h). let d = sym (refuses m p h) ∙ e in unequal cc)
         (calendar-decided c rules),
     accepts entries end,
   )

@@ -9,7 +9,7 @@ use native.Mathlib.Omega.{arith}
 use borrow.Author.Tests.{leb-true, le-leb}
 use lib.Dec.{leb, ltb, eqb}
 use lib.ListN.{length, length-append, List·getD-append}
-use Rattle.sets.specs.Decides.{is-false, dec-eq}
+use Rattle.sets.specs.Decides.{unequal, is-false, dec-eq}
 use Rattle.sets.specs.Lists.{null, some, sameList}
 use Rattle.semantics.specs.Definitions.Reading.{Reading, field, refused, _then_, require, times}
 use Rattle.semantics.specs.Definitions.Sheet.{Sheet, byteAt, wordAt, between, present, countAt, nameByte, nameByteAt, nameAt, maskAt, ruleAt, sections, mostAtoms, mostRules, longestName}
@@ -33,7 +33,7 @@ module _ (s more : List ℕ) where
 
     ends-within : (r q : Reading A) → Same r q → (v : A) (next : ℕ) → r ≡ field v next → next ≤ length s
     ends-within (field w m) q e v next d = subst (λ z. z ≤ length s) (sym (field-same d .1)) (e .0)
-    ends-within (refused n p) q e v next d = let z : _≡_ {A = ℕ} 0 1 = cc in absurd (omega arith)
+    ends-within (refused n p) q e v next d = unequal cc
 
     same-then : {B : Type 0} (r q : Reading A) (f g : A → ℕ → Reading B) → Same r q → ((v : A) (next : ℕ) → next ≤ length s → Same (f v next) (g v next))
         → Same (r then f) (q then g)
@@ -186,5 +186,5 @@ module _ (s more : List ℕ) where
     cut-short x end e = go (sections s) followed
       where
         go : (r : Reading Sheet) → Followed r (sections longer) → r ≡ refused 1 (length s)
-        go (field y m) q = let d = sym e ∙ q in let z : _≡_ {A = ℕ} 0 1 = cc in absurd (omega arith)
-        go (refused n p) q = ⊎-elim (λ h. ap₂ refused (h .0) (h .1)) (λ q. let d = sym e ∙ q in let z : _≡_ {A = ℕ} 0 1 = cc in absurd (omega arith)) q
+        go (field y m) q = let d = sym e ∙ q in unequal cc
+        go (refused n p) q = ⊎-elim (λ h. ap₂ refused (h .0) (h .1)) (λ q. let d = sym e ∙ q in unequal cc) q

@@ -7,7 +7,7 @@ use mathlib.Core.Logic.{_↔_, _⊎_, inl, inr, ⊎-elim}
 use native.Mathlib.Omega.{arith}
 use native.Mathlib.Decide.{ℕ-discrete}
 use lib.ListN.{length}
-use Rattle.sets.specs.Decides.{Decides, is-true, dec-and, dec-or, dec-does}
+use Rattle.sets.specs.Decides.{unequal, Decides, is-true, dec-and, dec-or, dec-does}
 use Rattle.sets.specs.Lists.{_among_, nowhere, among-append, among-only, among-flat, only, upTo, among-upTo, dec-some, dec-any}
 use Rattle.sets.specs.Pairwise.{upTo-rising, Distinct, pairwise-append, pairwise-flat}
 use Rattle.sets.specs.Sets.{_∈_}
@@ -73,7 +73,7 @@ module _ (rs : List EpistemicRule) where
           let x = mentioned rs K notK a in
           let y = mentioned rs M notM a in
           pairwise-append (λ d e. d ≡ e → ⊥) (only x (not-known a)) (only y (may-be a)) (single x (not-known a)) (single y (may-be a))
-          (λ d e p q z. let u = among-only x .0 p .1 in let v = among-only y .0 q .1 in let o : _≡_ {A = ℕ} 0 1 = cc in omega arith)
+          (λ d e p q z. let u = among-only x .0 p .1 in let v = among-only y .0 q .1 in unequal cc)
 
 -- "bit j set means that negation j is assumed to hold"
 pub dec-assumed : (es : List Negation) (g : ℕ) (e : Negation) → Decides ((j : ℕ) × (j < length es) × ((j ∈ g) × (numbered es j ≡ e))) (assumed es g e)

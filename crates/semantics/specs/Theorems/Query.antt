@@ -3,8 +3,7 @@ use Prim.Native.Nat.{ℕ, _^_, _<_}
 use mathlib.Core.Path.{_≡_, refl, sym, ap, _∙_, subst}
 use mathlib.Core.Bool.{Bool, true, false, not, cond}
 use mathlib.Core.Logic.{_↔_}
-use native.Mathlib.Omega.{arith}
-use Rattle.sets.specs.Decides.{Decides, is-true, is-false, dec-iff, dec-not}
+use Rattle.sets.specs.Decides.{unequal, Decides, is-true, is-false, dec-iff, dec-not}
 use Rattle.sets.specs.Lists.{_among_, null, every, no-members, dec-every, dec-member, dec-null}
 use Rattle.sets.specs.Sets.{_∈_, _∈?_}
 use Rattle.sets.specs.Members.{dec-∈, ∈-⋃}
@@ -34,9 +33,9 @@ over-views s P f d =
 -- "none", from the answer; and that every other one presupposes a view
 views-first : (n b c : Bool) → cond n None (cond b Yes (cond c No Open)) ≡ None → n ≡ true
 views-first true b c e = refl
-views-first false true c e = let z : _≡_ {A = ℕ} 0 1 = cc in absurd (omega arith)
-views-first false false true e = let z : _≡_ {A = ℕ} 0 1 = cc in absurd (omega arith)
-views-first false false false e = let z : _≡_ {A = ℕ} 0 1 = cc in absurd (omega arith)
+views-first false true c e = unequal cc
+views-first false false true e = unequal cc
+views-first false false false e = unequal cc
 
 presupposes : (n : Bool) (x : Answer) {v : Answer} → (None ≡ v → ⊥) → cond n None x ≡ v → (n ≡ false) × (x ≡ v)
 presupposes true x d e = absurd (d e)
@@ -45,17 +44,17 @@ presupposes false x d e = (refl, e)
 -- the two tests, from the answer
 first : (b c : Bool) → cond b Yes (cond c No Open) ≡ Yes → b ≡ true
 first true c e = refl
-first false true e = let z : _≡_ {A = ℕ} 0 1 = cc in absurd (omega arith)
-first false false e = let z : _≡_ {A = ℕ} 0 1 = cc in absurd (omega arith)
+first false true e = unequal cc
+first false false e = unequal cc
 
 second : (b c : Bool) → cond b Yes (cond c No Open) ≡ No → (b ≡ false) × (c ≡ true)
-second true c e = let z : _≡_ {A = ℕ} 0 1 = cc in absurd (omega arith)
+second true c e = unequal cc
 second false true e = (refl, refl)
-second false false e = let z : _≡_ {A = ℕ} 0 1 = cc in absurd (omega arith)
+second false false e = unequal cc
 
 third : (b c : Bool) → cond b Yes (cond c No Open) ≡ Open → (b ≡ false) × (c ≡ false)
-third true c e = let z : _≡_ {A = ℕ} 0 1 = cc in absurd (omega arith)
-third false true e = let z : _≡_ {A = ℕ} 0 1 = cc in absurd (omega arith)
+third true c e = unequal cc
+third false true e = unequal cc
 third false false e = (refl, refl)
 
 -- ---- whether there is a world view
@@ -147,15 +146,15 @@ module _ (s : Setting) (a : ℕ) where
 
   -- "yes" exactly if there is a world view and the atom is known in every one
   pub query-yes : query s a ≡ Yes ↔ (SomeView s × KnownInAll)
-  query-yes = with-view (λ e. let z : _≡_ {A = ℕ} 0 1 = cc in absurd (omega arith)) three-yes
+  query-yes = with-view (λ e. unequal cc) three-yes
 
   -- otherwise "no" exactly if there is one and the atom is possible in none
   pub query-no : query s a ≡ No ↔ (SomeView s × ((KnownInAll → ⊥) × PossibleInNone))
-  query-no = with-view (λ e. let z : _≡_ {A = ℕ} 0 1 = cc in absurd (omega arith)) three-no
+  query-no = with-view (λ e. unequal cc) three-no
 
   -- otherwise, if there is one, "open"
   pub query-open : query s a ≡ Open ↔ (SomeView s × ((KnownInAll → ⊥) × (PossibleInNone → ⊥)))
-  query-open = with-view (λ e. let z : _≡_ {A = ℕ} 0 1 = cc in absurd (omega arith)) three-open
+  query-open = with-view (λ e. unequal cc) three-open
 
   -- where there is a world view no atom is both known in every one and possible in none
   pub known-not-impossible : SomeView s → KnownInAll → PossibleInNone → ⊥

@@ -7,12 +7,13 @@ use mathlib.Core.List.{List, [], _∷_, _++_}
 use mathlib.Core.Logic.{_↔_, _⊎_, inl, inr, ⊎-elim}
 use native.Mathlib.Omega.{arith}
 use lib.ListN.{length, length-append}
+use Rattle.sets.specs.Decides.{unequal}
 use Rattle.semantics.specs.Definitions.Reading.{Reading, field, refused, _then_, require, times}
 
 pub then-field : {A B : Type 0} (r : Reading A) (rest : A → ℕ → Reading B) {w : B} {end : ℕ} → r then rest ≡ field w end
     → (v : A) × (next : ℕ) × (r ≡ field v next) × (rest v next ≡ field w end)
 then-field (field v next) rest e = (v, next, refl, e)
-then-field (refused number place) rest e = let z : _≡_ {A = ℕ} 0 1 = cc in absurd (omega arith)
+then-field (refused number place) rest e = unequal cc
 
 pub field-same : {A : Type 0} {v w : A} {m n : ℕ} → field v m ≡ field w n → (w ≡ v) × (n ≡ m)
 field-same e = (cc, cc)
@@ -21,7 +22,7 @@ module _ {A : Type 0} where
   pub require-field : (b : Bool) (number place : ℕ) (rest : Reading A) {v : A} {next : ℕ} → require b number place rest ≡ field v next
       → (b ≡ true) × (rest ≡ field v next)
   require-field true number place rest e = (refl, e)
-  require-field false number place rest e = let z : _≡_ {A = ℕ} 0 1 = cc in absurd (omega arith)
+  require-field false number place rest e = unequal cc
 
   -- a check that is passed, and one that is not
   pub require-passes : {b : Bool} (number place : ℕ) (rest : Reading A) → b ≡ true → require b number place rest ≡ rest
@@ -45,18 +46,18 @@ module _ {A : Type 0} where
       ↔ ((r ≡ refused n p) ⊎ NotPassed r passed number place n p)
   require-refused (field v next) passed number place n p = (
     λ e. inr (go (passed v) refl e),
-    ⊎-elim (λ e. let z : _≡_ {A = ℕ} 0 1 = cc in absurd (omega arith)) (λ h. back h),
+    ⊎-elim (λ e. unequal cc) (λ h. back h),
   )
     where
       go : (b : Bool) → passed v ≡ b → require b number place (field v next) ≡ refused n p → NotPassed (field v next) passed number place n p
-      go true d e = let z : _≡_ {A = ℕ} 0 1 = cc in absurd (omega arith)
+      go true d e = unequal cc
       go false d e = record { value = v; next = next; yields = refl; fails = d; numbered = cc; placed = cc }
 
       back : NotPassed (field v next) passed number place n p → require (passed v) number place (field v next) ≡ refused n p
       back h = rw (h .numbered, h .placed, ap passed (sym (field-same (h .yields) .0)) ∙ h .fails)
   require-refused (refused m q) passed number place n p = (
     inl,
-    ⊎-elim (λ e. e) (λ h. let d = h .yields in let z : _≡_ {A = ℕ} 0 1 = cc in absurd (omega arith)),
+    ⊎-elim (λ e. e) (λ h. let d = h .yields in unequal cc),
   )
 
   -- what each step keeps, of the number of fields, the fields and the place, holds where all have been taken
