@@ -1,5 +1,6 @@
 // What the calls answer, as fields.
 use super::output::field;
+use super::request::Asked;
 use engine::Checked;
 use engine::Counted;
 use engine::Judged;
@@ -128,9 +129,8 @@ fn queried(r: Queried, at: usize, out: &mut [u8]) -> usize
 
 // The refusal's number and place, or 0 and the values.
 pub fn answer(
-    call: u8,
+    asked: Asked,
     sheet: &[u8],
-    argument: u32,
     companion: &[u8],
     words: &mut [u16],
     at: usize,
@@ -139,13 +139,22 @@ pub fn answer(
     requires { ⌜ (at ≤ length (now out)) × (1024 ≤ length (now out)) ⌝ }
     ensures { λ r. ⌜ r ≤ length (now (out .exit)) ⌝ }
 {
+    let call = asked.call;
     match call {
         0 => checked(check(sheet), at, out),
-        1 => judged(verdict(sheet, argument), at, out),
-        2 => counted(belief_sets(sheet, argument, words), at, out),
-        3 => listed(list(sheet, words), at, out),
-        4 => queried(query(sheet, argument), at, out),
-        5 => listed(list_at(sheet, companion, argument, words), at, out),
+        1 => judged(
+            verdict(sheet, asked.ins, asked.outs, asked.argument),
+            at,
+            out,
+        ),
+        2 => counted(
+            belief_sets(sheet, asked.ins, asked.outs, asked.argument, words),
+            at,
+            out,
+        ),
+        3 => listed(list(sheet, asked.ins, asked.outs, words), at, out),
+        4 => queried(query(sheet, asked.ins, asked.outs, asked.argument), at, out),
+        5 => listed(list_at(sheet, companion, asked.argument, words), at, out),
         _ => counted(changes(sheet, companion, words), at, out),
     }
 }

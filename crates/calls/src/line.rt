@@ -3,6 +3,7 @@ use super::answers::answer;
 use super::output::each;
 use super::output::flush;
 use super::output::mark;
+use super::request::Asked;
 ghost use Prim.Native.Nat.{_≤_};
 ghost use lib.ListN.{length};
 
@@ -23,33 +24,26 @@ fn fill(cells: &mut [u16], first: u16) {
     }
 }
 
-fn line(call: u8, sheet: &[u8], argument: u32, companion: &[u8], cells: &mut [u16], out: &mut [u8])
+fn line(asked: Asked, sheet: &[u8], companion: &[u8], cells: &mut [u16], out: &mut [u8])
     requires { ⌜ 1024 ≤ length (now out) ⌝ }
 {
-    let a = text::put_decimal(call as usize, 0, out);
-    let b = answer(call, sheet, argument, companion, cells, a, out);
+    let a = text::put_decimal(asked.call as usize, 0, out);
+    let b = answer(asked, sheet, companion, cells, a, out);
     let c = mark(b" :", b, out);
     let d = each(cells, c, out);
     let e = mark(b"\n", d, out);
     flush(e, out);
 }
 
-fn lend(call: u8, sheet: &[u8], argument: u32, companion: &[u8], cells: &mut [u16], first: u16) {
+fn lend(asked: Asked, sheet: &[u8], companion: &[u8], cells: &mut [u16], first: u16) {
     let mut out = io::large_buffer();
     fill(cells, first);
-    line(call, sheet, argument, companion, cells, &mut out);
+    line(asked, sheet, companion, cells, &mut out);
 }
 
-pub fn respond(call: u8, sheet: &[u8], argument: u32, companion: &[u8], count: usize, first: u16)
+pub fn respond(asked: Asked, sheet: &[u8], companion: &[u8], count: usize, first: u16)
     requires { ⌜ count ≤ 33000 ⌝ }
 {
     let mut cells = [0u16; 33000];
-    lend(
-        call,
-        sheet,
-        argument,
-        companion,
-        &mut cells[0..count],
-        first,
-    );
+    lend(asked, sheet, companion, &mut cells[0..count], first);
 }

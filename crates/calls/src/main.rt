@@ -1,17 +1,17 @@
 // Requests of the calls sold, from standard input until it ends, and a line for each. All numbers have the low byte first.
 //
 // A request: one byte, the call; two bytes, the sheet's length, at most 2,048, and the sheet; four bytes, the argument; two and two bytes, the
-// day masks; two bytes, the companion's length, at most 12,288, and the companion; two bytes, the number of cells lent, at most 33,000; two
-// bytes, f. Before the call, cell i holds (f + i) mod 65,536. What a call does not take is passed over; no call takes masks yet.
+// day masks, in and out; two bytes, the companion's length, at most 12,288, and the companion; two bytes, the number of cells lent, at most 33,000; two
+// bytes, f. Before the call, cell i holds (f + i) mod 65,536. What a call does not take is passed over.
 //
 // Its line: the call; the refusal's number and place, or 0 and the values; a colon; the cells after the call.
 //
 // call                 takes                                           values                                                        cells
 // 0 check              sheet                                           atoms, rules, k                                               as lent
-// 1 verdict            sheet, argument: guess                          0: empty; 1 and found; 2, known, possible and number of sets  as lent
-// 2 belief sets        sheet, argument: guess                          their number                                                  words
-// 3 list               sheet                                           views, covered, ruled, tested, empty, other                   words
-// 4 query              sheet, argument: atom                           0: yes; 1: no; 2: open; 3: none                               as lent
+// 1 verdict            sheet, masks, argument: guess                   0: empty; 1 and found; 2, known, possible and number of sets  as lent
+// 2 belief sets        sheet, masks, argument: guess                   their number                                                  words
+// 3 list               sheet, masks                                    views, covered, ruled, tested, empty, other                   words
+// 4 query              sheet, masks, argument: atom                    0: yes; 1: no; 2: open; 3: none                               as lent
 // 5 list at a minute   sheet, companion: calendar, argument: minute    as 3                                                          words
 // 6 minutes of change  sheet, companion: calendar                      their number                                                  words
 //

@@ -4,6 +4,14 @@ use super::line::respond;
 use libc::STDIN_FILENO;
 ghost use Prim.Native.Nat.{_≤_};
 
+// The call, and what it takes beside the sheet, the companion and the cells: the argument, and the day's masks.
+pub struct Asked {
+    pub call: u8,
+    pub argument: u32,
+    pub ins: u16,
+    pub outs: u16,
+}
+
 fn wide(b: u8) -> u16
     ensures { λ r. ⌜ r ≤ 255 ⌝ }
 {
@@ -21,7 +29,7 @@ fn number(low: u16, high: u16) -> u32 {
 }
 
 // How many cells, and what the first holds.
-fn from_cells(call: u8, sheet: &[u8], argument: u32, companion: &[u8]) -> bool {
+fn from_cells(asked: Asked, sheet: &[u8], companion: &[u8]) -> bool {
     let mut b = [0u8; 4];
     if io::read_full(STDIN_FILENO, &mut b) < 4 {
         return false;
@@ -30,16 +38,16 @@ fn from_cells(call: u8, sheet: &[u8], argument: u32, companion: &[u8]) -> bool {
     if 33000 < count {
         return false;
     }
-    respond(call, sheet, argument, companion, count, word(b[2], b[3]));
+    respond(asked, sheet, companion, count, word(b[2], b[3]));
     true
 }
 
 // The companion, as long as the slice.
-fn from_companion(call: u8, sheet: &[u8], argument: u32, companion: &mut [u8]) -> bool {
+fn from_companion(asked: Asked, sheet: &[u8], companion: &mut [u8]) -> bool {
     if io::read_full(STDIN_FILENO, companion) < companion.len() {
         return false;
     }
-    from_cells(call, sheet, argument, companion)
+    from_cells(asked, sheet, companion)
 }
 
 // The argument, the masks and the companion's length.
@@ -48,13 +56,18 @@ fn from_argument(call: u8, sheet: &[u8]) -> bool {
     if io::read_full(STDIN_FILENO, &mut b) < 10 {
         return false;
     }
-    let argument = number(word(b[0], b[1]), word(b[2], b[3]));
+    let asked = Asked {
+        call,
+        argument: number(word(b[0], b[1]), word(b[2], b[3])),
+        ins: word(b[4], b[5]),
+        outs: word(b[6], b[7]),
+    };
     let n = word(b[8], b[9]) as usize;
     if 12288 < n {
         return false;
     }
     let mut companion = [0u8; 12288];
-    from_companion(call, sheet, argument, &mut companion[0..n])
+    from_companion(asked, sheet, &mut companion[0..n])
 }
 
 // The sheet, as long as the slice.

@@ -10,6 +10,7 @@ use Rattle.semantics.specs.Definitions.Setting.{Setting}
 use Rattle.semantics.specs.Definitions.Returned.{Returned, accepted, refusal, answer, written, afterwards}
 use Rattle.semantics.specs.Definitions.Listing.{Tally, six, tallied, tallyOf, listing, words}
 use Rattle.semantics.specs.Definitions.Calls.{resultOf, recordsNeed, listCall, recordsOf}
+use Rattle.semantics.specs.Definitions.Day.{ofDay}
 use Rattle.semantics.specs.Definitions.Desk.{bytesOf, deskNeed, deskBytes, deskCall, deskNumber}
 use Rattle.semantics.specs.Theorems.Returned.{fits-limited, short-limited, answer-accepted, answer-refused}
 use Rattle.semantics.specs.Walk.{recordsRoom}
@@ -18,25 +19,27 @@ use Rattle.semantics.specs.Theorems.Tally.{AtMost}
 use Rattle.semantics.specs.Theorems.Listing.{listing-long}
 use Rattle.semantics.specs.Theorems.Records.{words-long}
 use Rattle.semantics.specs.Theorems.ListCall.{result-given, result-says, list-refused}
+use Rattle.semantics.specs.Theorems.DaySource.{day-bounded}
 use Rattle.semantics.specs.Theorems.Desk.{tally-small, refused-small, never-short}
 use Rattle.engine.specs.declared.Listed.{Listed}
 use Rattle.engine.specs.declared.Listed.the-variants.{Accepted, Refused}
 use Rattle.engine.specs.Answers.{listed}
 use Rattle.desk.specs.Demand3.{DeskDemand, desk-demand}
+use Rattle.desk.specs.Days.{Returns, DeskDay, desk-day}
 
 -- ---- what is returned, and the lent bytes
-module _ (from : Returned Setting) (bounded : Bounded from) (out : List ℕ) where
-  abbrev pub Returns : (r : ℕ) (after : List ℕ) → Type 0
-  Returns r after = (r ≡ deskNumber (deskCall from (length out))) × (after ≡ afterwards deskBytes (deskCall from (length out)) out)
+-- with the demands that follow
+pub met : (sheet : List ℕ) (ins outs : ℕ) (out : List ℕ) {r : ℕ} {after : List ℕ} →
+    let from = ofDay sheet ins outs in
+    Returns from r out after
+    → (r ≡ deskNumber (deskCall from (length out)))
+    × ((after ≡ afterwards deskBytes (deskCall from (length out)) out) × (DeskDemand from r out after × DeskDay sheet ins outs r out after))
+met sheet ins outs out {r} {after} p =
+    let from = ofDay sheet ins outs in
+    (p .0, (p .1, (desk-demand from (day-bounded sheet ins outs) r out after (p .0) (p .1), desk-day sheet ins outs r out after p)))
 
-  -- with the demand that follows
-  pub met : {r : ℕ} {after : List ℕ} → Returns r after
-      → (r ≡ deskNumber (deskCall from (length out)))
-      × ((after ≡ afterwards deskBytes (deskCall from (length out)) out) × DeskDemand from r out after)
-  met {r} {after} p = (p .0, (p .1, desk-demand from bounded r out after (p .0) (p .1)))
-
-  kept : (number place : ℕ) → deskCall from (length out) ≡ refusal number place → Returns (number * 65536 + place) out
-  kept number place e = (sym (ap deskNumber e), sym (ap (λ q. afterwards deskBytes q out) e))
+kept : (from : Returned Setting) (out : List ℕ) (number place : ℕ) → deskCall from (length out) ≡ refusal number place → Returns from (number * 65536 + place) out out
+kept from out number place e = (sym (ap deskNumber e), sym (ap (λ q. afterwards deskBytes q out) e))
 
 -- ---- a buffer of so many words was lent to `list`, which answered r
 module _ (from : Returned Setting) (bounded : Bounded from) (size : ℕ) {r : Listed} (answered : listed r ≡ answer (λ v. v .tally) (listCall from size)) where
@@ -48,9 +51,9 @@ module _ (from : Returned Setting) (bounded : Bounded from) (size : ℕ) {r : Li
     pub small-refusal : (1 ≤ number) × (place < 65536)
     small-refusal = refused-small bounded size number place recordsNeed returned
 
-    pub refused-too : (out : List ℕ) → Returns from bounded out (number * 65536 + place) out
+    pub refused-too : (out : List ℕ) → Returns from (number * 65536 + place) out out
     refused-too out =
-        kept from bounded out number place (list-refused deskNeed from (length out / 2) number place .1 (inl (never-short bounded size number place long returned)))
+        kept from out number place (list-refused deskNeed from (length out / 2) number place .1 (inl (never-short bounded size number place long returned)))
 
   module _ {views covered ruled tested empty other : ℕ} (told : r ≡ Accepted views covered ruled tested empty other) where
     abbrev tally : Tally
@@ -72,17 +75,17 @@ module _ (from : Returned Setting) (bounded : Bounded from) (size : ℕ) {r : Li
         subst (λ t. AtMost t 65535) e
         (omega (arith, a), omega (arith, b), omega (arith, c), omega (arith, d), omega (arith, f), omega (arith, g))
 
-    pub too-short : (out : List ℕ) → length out / 2 < 6 + 4 * views → Returns from bounded out (9 * 65536 + views) out
+    pub too-short : (out : List ℕ) → length out / 2 < 6 + 4 * views → Returns from (9 * 65536 + views) out out
     too-short out l =
         let (s, h, _, e, _) = found in
         let n = long s e in
-        kept from bounded out 9 views (result-given deskNeed from (length out / 2) h
+        kept from out 9 views (result-given deskNeed from (length out / 2) h
         ∙ short-limited _ (length out / 2) _ (resultOf s) (subst (λ m. length out / 2 < 6 + 4 * m) (sym n) l) ∙ ap (refusal 9) n)
 
     -- the buffer of `list` after it answered: the records of the views are its first words
     pub fits : (part out : List ℕ) {after final : List ℕ} → after ≡ afterwards recordsOf (listCall from size) part
         → 6 + 4 * views ≤ length out / 2 → final ≡ written (bytesOf (six tally ++ take (4 * views) after)) out
-        → Returns from bounded out 0 final
+        → Returns from 0 out final
     fits part out {after} {final} left l f =
         let (s, h, d, t, _) = found in
         let ws = words (listing s) in

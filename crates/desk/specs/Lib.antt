@@ -1,2 +1,3 @@
 -- What the desk call promises.
 pub mod Demand3
+pub mod Days

@@ -6,22 +6,24 @@ use engine::list;
 use words::write_listing;
 ghost use mathlib.Core.Path.{_≡_};
 ghost use lib.ListN.{length};
-ghost use Rattle.semantics.specs.Definitions.Check.{ofSheet};
+ghost use Rattle.semantics.specs.Definitions.Day.{ofDay};
 ghost use Rattle.semantics.specs.Definitions.Returned.{afterwards};
 ghost use Rattle.semantics.specs.Definitions.Desk.{deskCall, deskNumber, deskBytes};
 ghost use Rattle.desk.specs.Demand3.{DeskDemand};
+ghost use Rattle.desk.specs.Days.{DeskDay};
 
-// The listing: the six counts and then a record for each world view, into a lent buffer. Answers 0, or the number of the refusal times 65,536
-// plus its place: 1 to 7, then 9.
+// The listing under the day's masks, the atoms that are in and those that are out: the six counts and then a record for each world view, into
+// a lent buffer. Answers 0, or the number of the refusal times 65,536 plus its place: 1 to 7, 13, then 9.
 #[no_mangle]
-pub extern "C" fn budkarv_list(sheet: &[u8], out: &mut [u8]) -> u32
-    ensures { λ r. ⌜ r ≡ deskNumber (deskCall (ofSheet (now (sheet .entry))) (length (now (out .entry)))) ⌝ }
-    ensures { λ r. ⌜ now (out .exit) ≡ afterwards deskBytes (deskCall (ofSheet (now (sheet .entry))) (length (now (out .entry)))) (now (out .entry)) ⌝ }
-    ensures { λ r. ⌜ DeskDemand (ofSheet (now (sheet .entry))) r (now (out .entry)) (now (out .exit)) ⌝ }
+pub extern "C" fn budkarv_list(sheet: &[u8], ins: u16, outs: u16, bytes: &mut [u8]) -> u32
+    ensures { λ r. ⌜ r ≡ deskNumber (deskCall (ofDay (now (sheet .entry)) ins outs) (length (now (bytes .entry)))) ⌝ }
+    ensures { λ r. ⌜ now (bytes .exit) ≡ afterwards deskBytes (deskCall (ofDay (now (sheet .entry)) ins outs) (length (now (bytes .entry)))) (now (bytes .entry)) ⌝ }
+    ensures { λ r. ⌜ DeskDemand (ofDay (now (sheet .entry)) ins outs) r (now (bytes .entry)) (now (bytes .exit)) ⌝ }
+    ensures { λ r. ⌜ DeskDay (now (sheet .entry)) ins outs r (now (bytes .entry)) (now (bytes .exit)) ⌝ }
 {
     // four words for each of at most 4,096 views
     let mut records = [0u16; 16384];
-    match list(sheet, &mut records[..]) {
+    match list(sheet, ins, outs, &mut records[..]) {
         Listed::Accepted {
             views,
             covered,
@@ -30,7 +32,7 @@ pub extern "C" fn budkarv_list(sheet: &[u8], out: &mut [u8]) -> u32
             empty,
             other,
         } => {
-            if out.len() / 2 < 6 + 4 * views {
+            if bytes.len() / 2 < 6 + 4 * views {
                 return 9 * 65536 + views as u32;
             }
             write_listing(
@@ -41,7 +43,7 @@ pub extern "C" fn budkarv_list(sheet: &[u8], out: &mut [u8]) -> u32
                 empty,
                 other,
                 &records[..],
-                &mut out[..],
+                &mut bytes[..],
             );
             0
         }

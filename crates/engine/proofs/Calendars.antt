@@ -7,19 +7,21 @@ use native.Mathlib.Omega.{arith}
 use lib.ListN.{length, getD, length-map}
 use Rattle.sets.specs.Decides.{dec-one, dec-iff, dec-self}
 use Rattle.sets.specs.Lists.{upTo, among-upTo, length-upTo, map-keep-same}
-use Rattle.sets.specs.Sets.{_∈?_, AllBelow}
+use Rattle.sets.specs.Sets.{_∈?_, ∅, AllBelow}
 use Rattle.sets.specs.Members.{dec-∈}
 use Rattle.semantics.specs.Definitions.Sheet.{Sheet, atoms, ruleOfMasks, mostAtoms, mostRules}
 use Rattle.semantics.specs.Definitions.Setting.{settingOf, k}
 use Rattle.semantics.specs.Definitions.Check.{mostNegations, setting, opened}
 use Rattle.semantics.specs.Definitions.Calendar.{Entry, lastMinute, mostEntries, calendarOf, inForce, atMinute, rulesInForce, minutesOfChange, ofMinute, changesCall}
 use Rattle.semantics.specs.Definitions.Returned.{accepted, refusal}
+use Rattle.semantics.specs.Definitions.Day.{under}
 use Rattle.semantics.specs.Words.{programRoom, rulesIn}
 use Rattle.semantics.specs.Theorems.Accepted.{accepted-read}
 use Rattle.semantics.specs.Theorems.Returned.{fits-limited, short-limited}
 use Rattle.semantics.specs.Theorems.CalendarExact.{calendar-read}
 use Rattle.semantics.specs.Theorems.InForce.{AllProper, ∈-rulesInForce}
 use Rattle.semantics.specs.Theorems.Minute.{minute-fits}
+use Rattle.semantics.specs.Theorems.Day.{under-nothing}
 use Rattle.semantics.specs.Theorems.CalendarCalls.{Both, TurnedAway, minute-given, minute-refused, changes-given}
 use Rattle.sheet.specs.declared.Contents.{Contents}
 use Rattle.sheet.specs.declared.Opened.the-variants as answers
@@ -31,7 +33,7 @@ use Rattle.calendar.specs.declared.entries.Step.the-variants as steps
 use Rattle.calendar.specs.Entries.{entriesIn, Entries}
 use Rattle.calendar.specs.Steps.{ReadInto, was-field, was-refused}
 use Rattle.guess.specs.declared.outline.Outline.{Outline}
-use Rattle.guess.specs.Programs.{settingIn, WithinLimits, Outlines}
+use Rattle.guess.specs.Programs.{unmaskedIn, settingIn, WithinLimits, Outlines}
 use Rattle.engine.specs.declared.source.Source.the-variants.{Accepted, Refused}
 use Rattle.engine.specs.declared.minute.Scheduled.{Scheduled}
 use Rattle.engine.specs.declared.minute.Scheduled.the-variants as schedules
@@ -152,10 +154,13 @@ module _ (s c entries : List ℕ) (r : Scheduled) (h : ReadsBoth s c r entries) 
               few-negations = subst (λ z. k z ≤ mostNegations) (sym means) (fits .few-negations);
             }
 
-        pub minute-reads : minute ≤ lastMinute → (o : Outline) → o .atoms ≡ x .atoms → o .rules ≡ kept → Outlines o words → Reads (ofMinute s c minute) (Accepted o) words
+        -- an outline of these rules, without masks
+        pub minute-reads : minute ≤ lastMinute → (o : Outline) → (o .atoms ≡ x .atoms) × (o .rules ≡ kept) × (o .ins ≡ ∅) × (o .outs ≡ ∅) → Outlines o words
+            → Reads (ofMinute s c minute) (Accepted o) words
         unfolding left
-        minute-reads l o a m outlines =
-            let same : settingIn o words ≡ setting left = ap₂ (λ p q. settingOf p (map ruleOfMasks (rulesIn words q))) a m ∙ means in
+        minute-reads l o (a, m, i, q) outlines =
+            let rules : unmaskedIn o words ≡ setting left = ap₂ (λ p q. settingOf p (map ruleOfMasks (rulesIn words q))) a m ∙ means in
+            let same : settingIn o words ≡ setting left = (λ j. under (i j) (q j) (rules j)) ∙ under-nothing (setting left) in
             (outlines, minute-given s c minute accepts l ∙ ap accepted (sym same))
 
     -- ---- the minutes of change

@@ -15,6 +15,7 @@ use Rattle.semantics.specs.Definitions.Listing.{Tally, tallyOf, View, listing}
 use Rattle.semantics.specs.Definitions.Calls.{forGuess, forAtom, verdictCall, setsInto, beliefSetsCall, Result, resultOf, resultInto, recordsNeed, listCall, recordsOf, queryCall}
 use Rattle.semantics.specs.Definitions.Calendar.{ofMinute, changesCall}
 use Rattle.semantics.specs.Definitions.Query.{answerBy}
+use Rattle.semantics.specs.Definitions.Day.{ofDay}
 use Rattle.semantics.specs.Theorems.Layout.{places-bytes}
 use Rattle.semantics.specs.Theorems.Returned.{fits-limited, short-limited}
 use Rattle.semantics.specs.Theorems.Calls.{GuessOf, for-guess-accepted, verdict-refused, verdict-is, sets-given, sets-refused}
@@ -38,6 +39,7 @@ use Rattle.engine.specs.Demand2.{VerdictDemand, verdict-demand, SetsDema
 use Rattle.engine.specs.Demand3.{AsListed, ListingDemand, listing-demand}
 use Rattle.engine.specs.Queries.{QueryDemand, query-demand}
 use Rattle.engine.specs.Hours.{MinuteDemand, minute-demand, ChangesDemand, changes-demand}
+use Rattle.engine.specs.Days.{AsCounted, VerdictDay, verdict-day, SetsDay, sets-day, ListingDay, listing-day, QueryDay, query-day}
 
 -- ---- what was read
 module _ (from : Returned Setting) (words : List ℕ) where
@@ -147,24 +149,26 @@ module _ {A B : Type 0} (of : A → B) (words : A → List ℕ) {r : Returned A}
 pub check-met : (sheet : List ℕ) → ((i : ℕ) → byteAt sheet i < 256) → (r : Checked) → checked r ≡ check sheet → (checked r ≡ check sheet) × CheckDemand sheet r
 check-met sheet small r e = (e, check-demand sheet (places-bytes sheet small) r e)
 
-module _ (from : Returned Setting) where
-  pub verdict-met : (g : ℕ) (v : Judged) → judged v ≡ verdictCall from g → (judged v ≡ verdictCall from g) × VerdictDemand from g v
-  verdict-met g v e = (e, verdict-demand from g v e)
+module _ (sheet : List ℕ) (ins outs : ℕ) where
+  abbrev from : Returned Setting
+  from = ofDay sheet ins outs
 
-  pub sets-met : (g : ℕ) (before : List ℕ) (r : Counted) (after : List ℕ)
-      → (counted r ≡ answer length (beliefSetsCall from g (length before))) × (after ≡ afterwards (λ w. w) (beliefSetsCall from g (length before)) before)
+  pub verdict-met : (g : ℕ) (v : Judged) → judged v ≡ verdictCall from g
+      → (judged v ≡ verdictCall from g) × (VerdictDemand from g v × VerdictDay sheet ins outs g v)
+  verdict-met g v e = (e, (verdict-demand from g v e, verdict-day sheet ins outs g v e))
+
+  pub sets-met : (g : ℕ) (before : List ℕ) (r : Counted) (after : List ℕ) → AsCounted from g r before after
       → (counted r ≡ answer length (beliefSetsCall from g (length before)))
-      × ((after ≡ afterwards (λ w. w) (beliefSetsCall from g (length before)) before) × SetsDemand from g r before after)
-  sets-met g before r after p = (p .0, (p .1, sets-demand from g r before after (p .0) (p .1)))
+      × ((after ≡ afterwards (λ w. w) (beliefSetsCall from g (length before)) before) × (SetsDemand from g r before after × SetsDay sheet ins outs g r before after))
+  sets-met g before r after p = (p .0, (p .1, (sets-demand from g r before after (p .0) (p .1), sets-day sheet ins outs g r before after p)))
 
-  pub query-met : (a : ℕ) (q : Queried) → queried q ≡ queryCall from a → (queried q ≡ queryCall from a) × QueryDemand from a q
-  query-met a q e = (e, query-demand from a q e)
+  pub query-met : (a : ℕ) (q : Queried) → queried q ≡ queryCall from a → (queried q ≡ queryCall from a) × (QueryDemand from a q × QueryDay sheet ins outs a q)
+  query-met a q e = (e, (query-demand from a q e, query-day sheet ins outs a q e))
 
-  pub listing-met : (before : List ℕ) (r : Listed) (after : List ℕ)
-      → (listed r ≡ answer (λ v. v .tally) (listCall from (length before))) × (after ≡ afterwards recordsOf (listCall from (length before)) before)
+  pub listing-met : (before : List ℕ) (r : Listed) (after : List ℕ) → AsListed from r before after
       → (listed r ≡ answer (λ v. v .tally) (listCall from (length before)))
-      × ((after ≡ afterwards recordsOf (listCall from (length before)) before) × ListingDemand from r before after)
-  listing-met before r after p = (p .0, (p .1, listing-demand from r before after (p .0) (p .1)))
+      × ((after ≡ afterwards recordsOf (listCall from (length before)) before) × (ListingDemand from r before after × ListingDay sheet ins outs r before after))
+  listing-met before r after p = (p .0, (p .1, (listing-demand from r before after (p .0) (p .1), listing-day sheet ins outs r before after p)))
 
 pub minute-met : (sheet calendar : List ℕ) (minute : ℕ) (before : List ℕ) (r : Listed) (after : List ℕ) → AsListed (ofMinute sheet calendar minute) r before after
     → (listed r ≡ answer (λ v. v .tally) (listCall (ofMinute sheet calendar minute) (length before)))

@@ -5,4 +5,5 @@ pub mod Demand2
 pub mod Demand3
 pub mod Queries
 pub mod Hours
+pub mod Days
 pub mod Sources

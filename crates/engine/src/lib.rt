@@ -18,23 +18,25 @@ use sheet::open;
 use source::Source;
 use source::for_atom;
 use source::for_guess;
-use source::of_sheet;
+use source::of_day;
 use verdict::Verdict;
 use verdict::belief_sets as belief_sets_on;
 use verdict::verdict_on;
 use yes_no_open::yes_no_open;
 ghost use mathlib.Core.Path.{_≡_};
 ghost use lib.ListN.{length};
-ghost use Rattle.semantics.specs.Definitions.Check.{check as checkOf, ofSheet};
+ghost use Rattle.semantics.specs.Definitions.Check.{check as checkOf};
 ghost use Rattle.semantics.specs.Definitions.Returned.{answer, afterwards};
 ghost use Rattle.semantics.specs.Definitions.Calls.{verdictCall, beliefSetsCall, listCall, recordsOf, queryCall};
 ghost use Rattle.semantics.specs.Definitions.Calendar.{ofMinute, changesCall};
+ghost use Rattle.semantics.specs.Definitions.Day.{ofDay};
 ghost use Rattle.engine.specs.Answers.{checked, judged, counted, listed, queried};
 ghost use Rattle.engine.specs.Demand1.{CheckDemand};
 ghost use Rattle.engine.specs.Demand2.{VerdictDemand, SetsDemand};
 ghost use Rattle.engine.specs.Demand3.{ListingDemand};
 ghost use Rattle.engine.specs.Queries.{QueryDemand};
 ghost use Rattle.engine.specs.Hours.{MinuteDemand, ChangesDemand};
+ghost use Rattle.engine.specs.Days.{VerdictDay, SetsDay, ListingDay, QueryDay};
 
 // What the check answers: the numbers of atoms, of rules and of negations, or a refusal by its number and place.
 pub enum Checked {
@@ -115,13 +117,14 @@ pub fn check(sheet: &[u8]) -> Checked
     }
 }
 
-// The verdict on a guess: refusals 1 to 8.
-pub fn verdict(sheet: &[u8], guess: u32) -> Judged
-    ensures { λ r. ⌜ judged r ≡ verdictCall (ofSheet (now (sheet .entry))) guess ⌝ }
-    ensures { λ r. ⌜ VerdictDemand (ofSheet (now (sheet .entry))) guess r ⌝ }
+// The verdict on a guess under the day's masks, the atoms that are in and those that are out: refusals 1 to 7, 13, then 8.
+pub fn verdict(sheet: &[u8], ins: u16, outs: u16, guess: u32) -> Judged
+    ensures { λ r. ⌜ judged r ≡ verdictCall (ofDay (now (sheet .entry)) ins outs) guess ⌝ }
+    ensures { λ r. ⌜ VerdictDemand (ofDay (now (sheet .entry)) ins outs) guess r ⌝ }
+    ensures { λ r. ⌜ VerdictDay (now (sheet .entry)) ins outs guess r ⌝ }
 {
     let mut words = [0u16; 512];
-    let source = of_sheet(sheet, &mut words[..]);
+    let source = of_day(sheet, ins, outs, &mut words[..]);
     match for_guess(source, guess) {
         Source::Accepted(x) => match verdict_on(&words[..], x, guess as u16) {
             Verdict::Empty => Judged::Empty,
@@ -136,14 +139,15 @@ pub fn verdict(sheet: &[u8], guess: u32) -> Judged
     }
 }
 
-// The belief sets of a guess, by rising number, into a lent buffer: refusals 1 to 8, then 9.
-pub fn belief_sets(sheet: &[u8], guess: u32, out: &mut [u16]) -> Counted
-    ensures { λ r. ⌜ counted r ≡ answer length (beliefSetsCall (ofSheet (now (sheet .entry))) guess (length (now (out .entry)))) ⌝ }
-    ensures { λ r. ⌜ now (out .exit) ≡ afterwards (λ w. w) (beliefSetsCall (ofSheet (now (sheet .entry))) guess (length (now (out .entry)))) (now (out .entry)) ⌝ }
-    ensures { λ r. ⌜ SetsDemand (ofSheet (now (sheet .entry))) guess r (now (out .entry)) (now (out .exit)) ⌝ }
+// The belief sets of a guess under the day's masks, by rising number, into a lent buffer: refusals 1 to 7, 13, 8, then 9.
+pub fn belief_sets(sheet: &[u8], ins: u16, outs: u16, guess: u32, out: &mut [u16]) -> Counted
+    ensures { λ r. ⌜ counted r ≡ answer length (beliefSetsCall (ofDay (now (sheet .entry)) ins outs) guess (length (now (out .entry)))) ⌝ }
+    ensures { λ r. ⌜ now (out .exit) ≡ afterwards (λ w. w) (beliefSetsCall (ofDay (now (sheet .entry)) ins outs) guess (length (now (out .entry)))) (now (out .entry)) ⌝ }
+    ensures { λ r. ⌜ SetsDemand (ofDay (now (sheet .entry)) ins outs) guess r (now (out .entry)) (now (out .exit)) ⌝ }
+    ensures { λ r. ⌜ SetsDay (now (sheet .entry)) ins outs guess r (now (out .entry)) (now (out .exit)) ⌝ }
 {
     let mut words = [0u16; 512];
-    let source = of_sheet(sheet, &mut words[..]);
+    let source = of_day(sheet, ins, outs, &mut words[..]);
     match for_guess(source, guess) {
         Source::Accepted(x) => {
             let mut room = [0u16; 32768];
@@ -161,14 +165,16 @@ pub fn belief_sets(sheet: &[u8], guess: u32, out: &mut [u16]) -> Counted
     }
 }
 
-// The listing: a record of four words for each world view, in the order, into a lent buffer, and the six counts. Refusals 1 to 7, then 9.
-pub fn list(sheet: &[u8], out: &mut [u16]) -> Listed
-    ensures { λ r. ⌜ listed r ≡ answer (λ v. v .tally) (listCall (ofSheet (now (sheet .entry))) (length (now (out .entry)))) ⌝ }
-    ensures { λ r. ⌜ now (out .exit) ≡ afterwards recordsOf (listCall (ofSheet (now (sheet .entry))) (length (now (out .entry)))) (now (out .entry)) ⌝ }
-    ensures { λ r. ⌜ ListingDemand (ofSheet (now (sheet .entry))) r (now (out .entry)) (now (out .exit)) ⌝ }
+// The listing under the day's masks: a record of four words for each world view, in the order, into a lent buffer, and the six counts.
+// Refusals 1 to 7, 13, then 9.
+pub fn list(sheet: &[u8], ins: u16, outs: u16, out: &mut [u16]) -> Listed
+    ensures { λ r. ⌜ listed r ≡ answer (λ v. v .tally) (listCall (ofDay (now (sheet .entry)) ins outs) (length (now (out .entry)))) ⌝ }
+    ensures { λ r. ⌜ now (out .exit) ≡ afterwards recordsOf (listCall (ofDay (now (sheet .entry)) ins outs) (length (now (out .entry)))) (now (out .entry)) ⌝ }
+    ensures { λ r. ⌜ ListingDemand (ofDay (now (sheet .entry)) ins outs) r (now (out .entry)) (now (out .exit)) ⌝ }
+    ensures { λ r. ⌜ ListingDay (now (sheet .entry)) ins outs r (now (out .entry)) (now (out .exit)) ⌝ }
 {
     let mut words = [0u16; 512];
-    let source = of_sheet(sheet, &mut words[..]);
+    let source = of_day(sheet, ins, outs, &mut words[..]);
     list_from(source, &words[..], &mut out[..])
 }
 
@@ -208,13 +214,14 @@ pub fn changes(sheet: &[u8], calendar: &[u8], out: &mut [u16]) -> Counted
     }
 }
 
-// The query of an atom: refusals 1 to 7, then 10.
-pub fn query(sheet: &[u8], atom: u32) -> Queried
-    ensures { λ r. ⌜ queried r ≡ queryCall (ofSheet (now (sheet .entry))) atom ⌝ }
-    ensures { λ r. ⌜ QueryDemand (ofSheet (now (sheet .entry))) atom r ⌝ }
+// The query of an atom under the day's masks: refusals 1 to 7, 13, then 10.
+pub fn query(sheet: &[u8], ins: u16, outs: u16, atom: u32) -> Queried
+    ensures { λ r. ⌜ queried r ≡ queryCall (ofDay (now (sheet .entry)) ins outs) atom ⌝ }
+    ensures { λ r. ⌜ QueryDemand (ofDay (now (sheet .entry)) ins outs) atom r ⌝ }
+    ensures { λ r. ⌜ QueryDay (now (sheet .entry)) ins outs atom r ⌝ }
 {
     let mut words = [0u16; 512];
-    let source = of_sheet(sheet, &mut words[..]);
+    let source = of_day(sheet, ins, outs, &mut words[..]);
     match for_atom(source, atom) {
         Source::Accepted(x) => {
             let mut records = [0u16; 16384];

@@ -1,6 +1,7 @@
 // The source of a call: the rules of a program with K and M in words of the call's own, eight a rule, and their outline; or the refusal that
 // comes before.
 use guess::outline::Outline;
+use sets::meets;
 use sets::power;
 use sheet::Opened;
 use sheet::load;
@@ -9,7 +10,8 @@ ghost use mathlib.Core.Path.{_≡_};
 ghost use Prim.Native.Nat.{_*_, _≤_};
 ghost use lib.ListN.{length};
 ghost use Rattle.semantics.specs.Words.{programRoom};
-ghost use Rattle.semantics.specs.Definitions.Check.{ofSheet};
+ghost use Rattle.semantics.specs.Definitions.Sheet.{mostAtoms};
+ghost use Rattle.semantics.specs.Definitions.Day.{masksFit, ofDay};
 ghost use Rattle.semantics.specs.Definitions.Calls.{forGuess, forAtom};
 ghost use Rattle.engine.specs.Sources.{Reads, Within, ReadsOn};
 
@@ -18,14 +20,29 @@ pub enum Source {
     Refused(u8, usize),
 }
 
-// Reads a sheet: refusals 1 to 7. After this no byte of it is looked at.
-pub fn of_sheet(sheet: &[u8], words: &mut [u16]) -> Source
+// Is every in-atom and every out-atom one of so many atoms, and no atom both?
+fn masks_fit(ins: u16, outs: u16, atoms: usize) -> bool
+    requires { ⌜ atoms ≤ mostAtoms ⌝ }
+    ensures { λ r. ⌜ r ≡ masksFit ins outs atoms ⌝ }
+{
+    let end = power(atoms as u16);
+    let ins_fit = ins < end;
+    let outs_fit = outs < end;
+    let both = meets(ins, outs);
+    ins_fit & outs_fit & !both
+}
+
+// Reads a sheet, refusals 1 to 7, and then judges the day's masks, 13. After this no byte of the sheet is looked at.
+pub fn of_day(sheet: &[u8], ins: u16, outs: u16, words: &mut [u16]) -> Source
     requires { ⌜ 8 * programRoom ≤ length (now words) ⌝ }
     ensures { λ r. ⌜ length (now (words .exit)) ≡ length (now (words .entry)) ⌝ }
-    ensures { λ r. ⌜ Reads (ofSheet (now (sheet .entry))) r (now (words .exit)) ⌝ }
+    ensures { λ r. ⌜ Reads (ofDay (now (sheet .entry)) ins outs) r (now (words .exit)) ⌝ }
 {
     match open(sheet) {
         Opened::Accepted(x) => {
+            if !masks_fit(ins, outs, x.atoms) {
+                return Source::Refused(13, 0);
+            }
             load(sheet, x.rules_at, x.rules, &mut words[..]);
             Source::Accepted(Outline {
                 atoms: x.atoms,
@@ -33,6 +50,8 @@ pub fn of_sheet(sheet: &[u8], words: &mut [u16]) -> Source
                 negations: x.negations,
                 k_atoms: x.k_atoms,
                 m_atoms: x.m_atoms,
+                ins,
+                outs,
             })
         }
         Opened::Refused(number, place) => Source::Refused(number, place),

@@ -12,7 +12,7 @@ use Rattle.semantics.specs.Definitions.Rules.{Rule}
 use Rattle.semantics.specs.Definitions.Guesses.{not-known, may-be, assumed}
 use Rattle.semantics.specs.Words.{masksIn, rulesIn, rules-none, rules-more, ruleIn, programIn, program-none, program-more}
 use Rattle.guess.specs.declared.outline.Outline.{Outline}
-use Rattle.guess.specs.Programs.{settingIn, Outlines}
+use Rattle.guess.specs.Programs.{unmaskedIn, Outlines}
 use Rattle.guess.specs.Negations.{assumedBy}
 use Rattle.guess.specs.Acted.{deletedBy, reducedBy}
 use Rattle.guess.specs.Numbered.{negations-by}
@@ -68,9 +68,9 @@ module _ (u p : ℕ) where
 
 -- ---- all rules written: the reduct of the definition
 pub all-written : {x : Outline} {words : List ℕ} → Outlines x words → (g : ℕ) (out : List ℕ) (n : ℕ)
-    → Written (assumedBy x g .unknown) (assumedBy x g .maybe) words out n (x .rules) → programIn out n ≡ settingIn x words .program g
+    → Written (assumedBy x g .unknown) (assumedBy x g .maybe) words out n (x .rules) → programIn out n ≡ unmaskedIn x words .program g
 all-written {x} {words} o g out n w =
     let rules = rulesIn words (x .rules) in
-    let s = settingIn x words in
+    let s = unmaskedIn x words in
     w .program ∙ subst (λ es. kept (setOf (λ a. assumed es g (not-known a)) (x .atoms)) (setOf (λ a. assumed es g (may-be a)) (x .atoms)) rules ≡ s .program g)
     (sym (negations-by o)) (sym (reduct-by (x .atoms) (s .negations) g rules (o .below)))

@@ -3,7 +3,7 @@ use sets::size;
 ghost use mathlib.Core.Path.{_≡_};
 ghost use Prim.Native.Nat.{_+_, _*_, _≤_, _<_};
 ghost use lib.ListN.{length};
-ghost use Rattle.sets.specs.Sets.{⋃};
+ghost use Rattle.sets.specs.Sets.{⋃, ∅};
 ghost use Rattle.semantics.specs.Words.{rulesIn};
 ghost use Rattle.semantics.specs.Fields.{masksOf};
 ghost use Rattle.guess.specs.Programs.{WithinLimits, Outlines};
@@ -16,6 +16,9 @@ pub struct Outline {
     // the atoms under K or "not K", and under M or "not M"
     pub k_atoms: u16,
     pub m_atoms: u16,
+    // the day's masks: the atoms that are in, and those that are out
+    pub ins: u16,
+    pub outs: u16,
 }
 
 // The atoms in mask m or the next of some rule.
@@ -32,10 +35,10 @@ fn in_masks(words: &[u16], rules: usize, m: usize) -> u16
     set
 }
 
-// The outline of so many rules in words.
+// The outline of so many rules in words, without masks.
 pub fn outline_of(words: &[u16], atoms: usize, rules: usize) -> Outline
     requires { ⌜ WithinLimits atoms rules (now words) ⌝ }
-    ensures { λ r. ⌜ (r .atoms ≡ atoms) × (r .rules ≡ rules) ⌝ }
+    ensures { λ r. ⌜ (r .atoms ≡ atoms) × (r .rules ≡ rules) × (r .ins ≡ ∅) × (r .outs ≡ ∅) ⌝ }
     ensures { λ r. ⌜ Outlines r (now (words .entry)) ⌝ }
 {
     let k_atoms = in_masks(words, rules, 4);
@@ -47,5 +50,7 @@ pub fn outline_of(words: &[u16], atoms: usize, rules: usize) -> Outline
         negations: negations as usize,
         k_atoms,
         m_atoms,
+        ins: 0,
+        outs: 0,
     }
 }

@@ -9,7 +9,7 @@ ghost use mathlib.Core.Bool.{true, not};
 ghost use Prim.Native.Nat.{_+_, _*_, _<_, _≤_};
 ghost use lib.ListN.{length, take};
 ghost use Rattle.semantics.specs.Words.{programRoom, masksIn, ruleIn, programIn};
-ghost use Rattle.guess.specs.Programs.{settingIn, Outlines};
+ghost use Rattle.guess.specs.Programs.{unmaskedIn, Outlines};
 ghost use Rattle.guess.specs.Acted.{actedOn, deletedBy, reducedBy, Cleared};
 
 // What is done to a mask of a rule: its literals, or those that are not removed, join one of the four masks of the reduct; or the rule is
@@ -79,12 +79,13 @@ fn reduce(words: &[u16], j: usize, by: Assumptions, out: &mut [u16], n: usize) -
     true
 }
 
-// Writes the reduct of a guess, and says how many rules it has. The rules that are deleted are left out.
+// Writes the reduct of a guess, and says how many rules it has. The rules that are deleted are left out; the day's constraints are not
+// written.
 pub fn reduct(words: &[u16], x: Outline, guess: u16, out: &mut [u16]) -> usize
     requires { ⌜ Outlines x (now words) × (4 * programRoom ≤ length (now out)) ⌝ }
     ensures { λ r. ⌜ length (now (out .exit)) ≡ length (now (out .entry)) ⌝ }
     ensures { λ r. ⌜ r ≤ programRoom ⌝ }
-    ensures { λ r. ⌜ programIn (now (out .exit)) r ≡ settingIn x (now (words .entry)) .program guess ⌝ }
+    ensures { λ r. ⌜ programIn (now (out .exit)) r ≡ unmaskedIn x (now (words .entry)) .program guess ⌝ }
 {
     let by = assumed(x, guess);
     let mut n = 0;

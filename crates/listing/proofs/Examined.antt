@@ -10,7 +10,7 @@ use Rattle.semantics.specs.Definitions.Propagation.{contradicted}
 use Rattle.semantics.specs.Walk.{Ruled, judgedAs, outcomeBy}
 use Rattle.semantics.specs.Theorems.Verdict.{verified-few}
 use Rattle.guess.specs.declared.outline.Outline.{Outline}
-use Rattle.guess.specs.Programs.{settingIn, Outlines}
+use Rattle.guess.specs.Programs.{unmaskedIn, settingIn, Outlines}
 use Rattle.guess.specs.Negations.{negationsBy}
 use Rattle.guess.specs.Numbered.{negations-by}
 use Rattle.guess.specs.Settings.{settingBy, verdict-by, contradicted-by}
@@ -24,7 +24,7 @@ module _ {x : Outline} {words : List ℕ} (o : Outlines x words) where
   guess-below {g} h = subst (λ n. g < 2 ^ n) (o .counted ∙ sym (ap length (negations-by o))) h
 
   -- ---- of a guess, whose reduct is p
-  module _ (g : ℕ) {p : List Rule} (reduct : p ≡ settingIn x words .program g) where
+  module _ (g : ℕ) {p : List Rule} (reduct : p ≡ unmaskedIn x words .program g) where
     pub ruled-as : contradicted (settingBy x p) g ≡ true → ExaminedAs (settingIn x words) g Ruled
     ruled-as e = ap (λ r. outcomeBy g false r (meant.verdict (settingIn x words) g)) (sym e ∙ contradicted-by o g reduct)
 

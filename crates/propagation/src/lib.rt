@@ -16,7 +16,9 @@ ghost use Rattle.semantics.specs.Words.{ruleIn, programIn};
 ghost use Rattle.semantics.specs.Definitions.Propagation.{sure as sureIn, dead as deadIn, step, contradicted as isContradicted};
 ghost use Rattle.semantics.specs.Definitions.Sheet.{mostAtoms};
 ghost use Rattle.semantics.specs.Theorems.Closure.{LeastClosed};
+ghost use Rattle.semantics.specs.Definitions.Day.{dayConstraints};
 ghost use Rattle.semantics.specs.Theorems.Contradicted.{EmptyHead};
+ghost use Rattle.semantics.specs.Theorems.Constraints.{SureConstraint};
 ghost use Rattle.guess.specs.Negations.{Few, negationsBy};
 ghost use Rattle.guess.specs.Settings.{settingBy};
 ghost use Rattle.propagation.specs.Pairs.{pairFrom, EntersBy, SupportedBy, Clashes};
@@ -158,13 +160,23 @@ fn clash(x: Outline, guess: u16, pair: Pair) -> bool
     !(above & below)
 }
 
-// Is the guess contradicted, whose reduct is the first rules of a program? (T and F never meet: Theorems/Apart.antt.)
+// Is one of the day's constraints sure? For an in-atom it is when the atom is in F, for an out-atom when it is in T.
+fn sure_constraint(ins: u16, outs: u16, pair: Pair) -> bool
+    ensures { λ r. ⌜ Decides (SureConstraint (dayConstraints ins outs) (pairFrom pair)) r ⌝ }
+{
+    let missing = meets(ins, pair.f);
+    let present = meets(outs, pair.t);
+    missing | present
+}
+
+// Is the guess contradicted, whose reduct is the first rules of a program, under the day's masks? (T and F never meet: Theorems/Apart.antt.)
 pub fn contradicted(program: &[u16], rules: usize, x: Outline, guess: u16) -> bool
     requires { ⌜ (4 * rules ≤ length (now program)) × Few x × (guess < 2 ^ length (negationsBy x)) ⌝ }
     ensures { λ r. ⌜ r ≡ isContradicted (settingBy x (programIn (now (program .entry)) rules)) guess ⌝ }
 {
     let pair = propagated(program, rules, x.atoms);
     let head = empty_head(program, rules, pair);
+    let constraint = sure_constraint(x.ins, x.outs, pair);
     let negation = clash(x, guess, pair);
-    head | negation
+    head | constraint | negation
 }

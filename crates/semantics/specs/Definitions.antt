@@ -19,3 +19,4 @@ pub mod Program
 -- ---- document 02
 pub mod Calendar
 pub mod Pass
+pub mod Day

@@ -1,5 +1,6 @@
 -- Sheets whose lists are known, limit cases of the reading, the table of the reduct, verdicts and belief sets of guesses, what the listing, the
--- desk call and the query return, what `views` prints, calendars, and what one pass gathers, computed from the bytes.
+-- desk call and the query return, what `views` prints, calendars, what one pass gathers, and the answers under the day's masks, computed from
+-- the bytes.
 pub mod Sheets
 pub mod Own
 pub mod Limits
@@ -12,4 +13,5 @@ pub mod Calendars
 pub mod Minutes
 pub mod Changed
 pub mod Passes
+pub mod Days
 pub mod Computed

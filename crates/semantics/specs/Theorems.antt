@@ -51,3 +51,9 @@ pub mod CalendarCalls
 pub mod CalendarPlaces
 pub mod Ends
 pub mod Pass
+pub mod Constraints
+pub mod Day
+pub mod DaySource
+pub mod DayViews
+pub mod DayRules
+pub mod DayCall

@@ -1,11 +1,11 @@
 -- Tests and the questions that they decide. Assumes nothing.
-use Prim.Native.Nat.{ℕ, _≤_}
+use Prim.Native.Nat.{ℕ, _≤_, _<_}
 use mathlib.Core.Path.{_≡_, refl, sym, _∙_}
 use mathlib.Core.Bool.{Bool, true, false, not, _&&_, _||_, cond, true≢false}
 use mathlib.Core.Logic.{_↔_, _⊎_, inl, inr, ⊎-elim}
 use native.Mathlib.Omega.{arith}
-use lib.Dec.{T, eqb, leb}
-use borrow.Author.Tests.{eqb-true, eqb-false, leb-true, leb-false}
+use lib.Dec.{T, eqb, leb, ltb}
+use borrow.Author.Tests.{eqb-true, eqb-false, leb-true, leb-false, ltb-true, ltb-false}
 
 -- Anything, where unequal constructors would be equal: `cc` then finds that 0 is 1.
 pub unequal : {A : Type 0} → _≡_ {A = ℕ} 0 1 → A
@@ -84,6 +84,9 @@ dec-eq a b = record { yes = eqb-true a b; no = eqb-false a b }
 
 pub dec-le : (a b : ℕ) → Decides (a ≤ b) (leb a b)
 dec-le a b = record { yes = leb-true a b; no = λ e l. omega (arith, leb-false a b e) }
+
+pub dec-lt : (a b : ℕ) → Decides (a < b) (ltb a b)
+dec-lt a b = record { yes = ltb-true a b; no = λ e l. omega (arith, ltb-false a b e) }
 
 -- the answer of a decision
 abbrev pub does : {P : Type 0} → Dec P → Bool

@@ -150,6 +150,18 @@ module _ {A : Type 0} where
     unfolding keep
     keep-snoc l x = keep-append l (x ∷ []) ∙ rw keep-cons (rw append-nil)
 
+    -- those that pass a test h, and then f
+    pub keep-keep : (h : A → Bool) (l : List A) → keep f (keep h l) ≡ keep (λ x. f x && h x) l
+    unfolding keep
+    keep-keep h [] = refl
+    keep-keep h (x ∷ l) = go (h x) (f x) refl (keep-keep h l)
+      where
+        go : (b c : Bool) → f x ≡ c → {m : List A} → keep f (keep h l) ≡ m → keep f (cond b (x ∷ keep h l) (keep h l)) ≡ cond (c && b) (x ∷ m) m
+        go true true e ih = rw (keep-cons x (keep h l), e) (ap (λ l. x ∷ l) ih)
+        go true false e ih = rw (keep-cons x (keep h l), e) ih
+        go false true e ih = ih
+        go false false e ih = ih
+
     -- ---- the tests decide for every member, and for some member
     pub dec-every : (P : A → Type 0) (l : List A) → ((x : A) → x among l → Decides (P x) (f x)) → Decides ((x : A) → x among l → P x) (every f l)
     unfolding every

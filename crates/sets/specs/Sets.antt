@@ -7,7 +7,7 @@ use mathlib.Core.List.{List, foldl}
 use lib.Bits.{bitAnd, bitOr}
 use lib.Count.{ones}
 use lib.Dec.{eqb}
-use Rattle.sets.specs.Lists.{_among_}
+use Rattle.sets.specs.Lists.{_among_, keep, upTo}
 
 infix 45 _∈_ _⊆_ _⊂_ _∈?_ _⊆?_ _⊂?_ _meets?_
 infixl 66 _∩_ _∖_
@@ -90,3 +90,7 @@ abbrev pub ⋃ : List ℕ → ℕ
 -- "Its size is the number of set bits."
 abbrev pub size : ℕ → ℕ
 size x = ones x
+
+-- the members of x, rising: each is below the number of x
+unfoldable pub membersOf : ℕ → List ℕ
+membersOf x = keep (λ a. a ∈? x) (upTo x)

@@ -8,14 +8,15 @@ use native.Mathlib.Omega.{arith}
 use native.Mathlib.Nat.{mod-eq-of-lt, mod-one, mod-lt, pow-suc, lt-of-not-le, lt-of-le-of-lt}
 use lib.Arith.{lt-one}
 use lib.Count.{ones, ones-cat, ones-le, ones-step, onesIn}
+use lib.Dec.{leb}
 use lib.ListN.{length, length-append}
 use lib.Pow.{mod-pow-add, pow-pos}
-use Rattle.sets.specs.Decides.{decided, dec-eq}
-use Rattle.sets.specs.Lists.{_among_, keep, keep-snoc, among-kept, only, upTo, all-cons}
+use Rattle.sets.specs.Decides.{decided, dec-eq, dec-le}
+use Rattle.sets.specs.Lists.{_among_, keep, keep-snoc, among-kept, only, upTo, all-cons, dec-some}
 use Rattle.sets.specs.Pairwise.{upTo-distinct, Distinct, pairwise-keep}
 use Rattle.sets.specs.Counting.{no-longer}
-use Rattle.sets.specs.Sets.{_∈_, _⊆_, _⊂_, _∈?_, size}
-use Rattle.sets.specs.Members.{dec-∈, ∈-below, ⊆-antisym, ⊆-le}
+use Rattle.sets.specs.Sets.{_∈_, _⊆_, _⊂_, _∈?_, size, membersOf}
+use Rattle.sets.specs.Members.{dec-∈, ∈-below, below-power, ⊆-antisym, ⊆-le}
 
 -- the members of x below n, rising
 unfoldable pub members : ℕ → ℕ → List ℕ
@@ -59,6 +60,27 @@ members-distinct n x = pairwise-keep _ _ (upTo n) (upTo-distinct n)
 below-pow : (n : ℕ) → n < 2 ^ n
 below-pow zero = omega arith
 below-pow (suc n) = omega (arith, below-pow n, pow-suc 2 n)
+
+-- ---- all members
+pub among-membersOf : (x : ℕ) {a : ℕ} → a among membersOf x ↔ (a ∈ x)
+unfolding membersOf
+among-membersOf x {a} =
+    let m = among-kept (λ a. a ∈ x) (λ a. a ∈? x) (λ a. dec-∈ a x) x in
+    (λ q. m .0 q .1, λ q. m .1 (∈-below (below-pow x) q, q))
+
+pub size-membersOf : (x : ℕ) → length (membersOf x) ≡ size x
+unfolding membersOf members
+size-membersOf x = sym (size-members x x (below-pow x))
+
+-- not below 2 ^ n is what has a bit at or above n
+pub not-below-power : (n x : ℕ) → (x < 2 ^ n → ⊥) ↔ ((a : ℕ) × (a ∈ x) × (n ≤ a))
+not-below-power n x = (
+  λ f.
+      ⊎-elim (λ (a, m, l). (a, among-membersOf x .0 m, l))
+      (λ none. absurd (f (below-power n x .1 (λ a m. lt-of-not-le (λ l. none (a, among-membersOf x .1 m, l))))))
+      (decided (dec-some (λ a. leb n a) (λ a. n ≤ a) (membersOf x) (λ a _. dec-le n a))),
+  λ (a, m, l) h. let below = ∈-below h m in omega arith,
+)
 
 -- a set has no fewer members than a list of members, each once, and no more than a list that has them all
 module _ (x : ℕ) (l : List ℕ) where

@@ -1,3 +1,4 @@
--- What the proofs of the loops cite: rules written to words, and the subsets that the search has tried.
+-- What the proofs cite: rules written to words, the subsets that the search has tried, and the test by its parts.
 pub mod Written
 pub mod Tried
+pub mod Masked

@@ -3,16 +3,17 @@ use sets::has_and_lacks;
 use sets::meets;
 use sets::subset;
 ghost use mathlib.Core.Path.{_≡_};
-ghost use mathlib.Core.Bool.{not, _&&_};
+ghost use mathlib.Core.Bool.{not, _&&_, cond};
 ghost use Prim.Native.Nat.{_+_, _*_, _≤_};
 ghost use lib.Dec.{ltb};
 ghost use lib.ListN.{length};
 ghost use Rattle.semantics.specs.Words.{ruleIn, programIn};
-ghost use Rattle.semantics.specs.Definitions.Stable.{satisfies, smallerModel, stable};
+ghost use Rattle.semantics.specs.Definitions.Stable.{satisfies, smallerModel};
+ghost use Rattle.semantics.specs.Definitions.Day.{allowed, stableUnder};
 ghost use Rattle.stable.specs.Applied.{applies as appliesIn, positiveIn, positiveProgramIn};
 ghost use Rattle.stable.specs.Tested.{passes, ReducedBy};
 
-// What the test of a set answers: it is stable; or it is not, with a rule to ask first of the next set, of whose number nothing is promised.
+// What the test of a set answers: it passes; or it does not, with what to ask first of the next set, of whose number nothing is promised.
 pub enum Tested {
     Stable,
     Unstable(usize),
@@ -44,15 +45,15 @@ fn satisfied(program: &[u16], j: usize, i: u16) -> bool
     !asked | met
 }
 
-// Is j the number of one of so many rules, and that rule not satisfied in i?
-fn fails(program: &[u16], rules: usize, j: usize, i: u16) -> bool
+// Does i fail what j stands for? That is rule j, where it is one of so many, and otherwise the day's masks.
+fn fails(program: &[u16], rules: usize, ins: u16, outs: u16, j: usize, i: u16) -> bool
     requires { ⌜ 4 * rules ≤ length (now program) ⌝ }
-    ensures { λ r. ⌜ r ≡ ltb j rules && not (satisfies i (ruleIn (now (program .entry)) j)) ⌝ }
+    ensures { λ r. ⌜ r ≡ not (cond (ltb j rules) (satisfies i (ruleIn (now (program .entry)) j)) (allowed ins outs i)) ⌝ }
 {
     if j < rules {
         return !satisfied(program, j, i);
     }
-    false
+    !has_and_lacks(i, ins, outs)
 }
 
 // Writes the rules whose bodies hold in i, by their heads and plain atoms, two words a rule, and says how many they are. The first of
@@ -133,18 +134,29 @@ fn smaller_model(positive: &[u16], rules: usize, i: u16) -> bool
     found
 }
 
-// Is i a stable set of the program? The rule `first` is asked before the others. The words lent are room for the rules whose bodies hold
-// in i.
-pub fn test_set(program: &[u16], rules: usize, i: u16, first: usize, room: &mut [u16]) -> Tested
+// Is i a stable set of the program that has every in-atom and no out-atom? What `first` stands for is asked before all else: a rule, or the
+// masks under the number after the last rule's. The words lent are room for the rules whose bodies hold in i.
+pub fn test_set(
+    program: &[u16],
+    rules: usize,
+    ins: u16,
+    outs: u16,
+    i: u16,
+    first: usize,
+    room: &mut [u16],
+) -> Tested
     requires { ⌜ (4 * rules ≤ length (now program)) × (2 * rules ≤ length (now room)) ⌝ }
     ensures { λ r. ⌜ length (now (room .exit)) ≡ length (now (room .entry)) ⌝ }
-    ensures { λ r. ⌜ passes r ≡ stable (programIn (now (program .entry)) rules) i ⌝ }
+    ensures { λ r. ⌜ passes r ≡ stableUnder ins outs (programIn (now (program .entry)) rules) i ⌝ }
 {
-    if fails(program, rules, first, i) {
+    if fails(program, rules, ins, outs, first, i) {
         return Tested::Unstable(first);
     }
     match reduce(program, rules, i, &mut room[..]) {
         Reduced::Model(n) => {
+            if !has_and_lacks(i, ins, outs) {
+                return Tested::Unstable(rules);
+            }
             if smaller_model(&room[..], n, i) {
                 return Tested::Unstable(first);
             }

@@ -1,11 +1,12 @@
 -- The verdict, from what is gathered. Assumes nothing.
 use Prim.Native.Nat.{ℕ}
 use mathlib.Core.Path.{_≡_, sym, ap, _∙_}
-use mathlib.Core.List.{List}
+use mathlib.Core.List.{List, _++_}
 use borrow.Author.Tests.{eq-eqb, ne-eqb}
 use Rattle.semantics.specs.Definitions.Rules.{Rule}
 use Rattle.semantics.specs.Definitions.Verdict.{empty, other, verified, verdict}
 use Rattle.semantics.specs.Definitions.Pass.{Gathered, gathered, verdictFrom}
+use Rattle.semantics.specs.Definitions.Day.{dayConstraints}
 use Rattle.semantics.specs.Theorems.Pass.{one-pass, same-verdict}
 use Rattle.guess.specs.declared.outline.Outline.{Outline}
 use Rattle.guess.specs.Negations.{negationsBy, foundBy}
@@ -23,6 +24,8 @@ module _ (x : Outline) (y : Gathered) (g : ℕ) where
     pub is-other : (foundBy x (y .known) (y .possible) ≡ g → ⊥) → other (foundBy x (y .known) (y .possible)) ≡ verdictFrom (negationsBy x) y g
     is-other f = rw (ne-eqb (y .sets) 0 some, ne-eqb (foundBy x (y .known) (y .possible)) g f)
 
--- of a guess whose reduct is p
-pub decided-by : (x : Outline) (p : List Rule) (g : ℕ) {y : Gathered} → y ≡ gathered (x .atoms) p → verdictFrom (negationsBy x) y g ≡ verdict (settingBy x p) g
-decided-by x p g e = ap (λ y. verdictFrom (negationsBy x) y g) (e ∙ sym (one-pass (x .atoms) p)) ∙ same-verdict (settingBy x p) g
+-- of a guess whose reduct is p, under the day's masks
+pub decided-by : (x : Outline) (p : List Rule) (g : ℕ) {y : Gathered} → y ≡ gathered (x .atoms) (p ++ dayConstraints (x .ins) (x .outs))
+    → verdictFrom (negationsBy x) y g ≡ verdict (settingBy x p) g
+decided-by x p g e =
+    ap (λ y. verdictFrom (negationsBy x) y g) (e ∙ sym (one-pass (x .atoms) (p ++ dayConstraints (x .ins) (x .outs)))) ∙ same-verdict (settingBy x p) g

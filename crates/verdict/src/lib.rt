@@ -40,13 +40,13 @@ fn decide(y: Gathered, x: Outline, guess: u16) -> Verdict
     Verdict::Other(other)
 }
 
-// The verdict on a guess whose reduct is the first rules of a program. No word is lent for the belief sets.
+// The verdict on a guess whose reduct is the first rules of a program, under the day's masks. No word is lent for the belief sets.
 pub fn judge(program: &[u16], rules: usize, x: Outline, guess: u16) -> Verdict
     requires { ⌜ (4 * rules ≤ length (now program)) × (rules ≤ programRoom) × Few x ⌝ }
     ensures { λ r. ⌜ verdictOf r ≡ verdict (settingBy x (programIn (now (program .entry)) rules)) guess ⌝ }
 {
     let mut none = [0u16; 0];
-    let y = gather(program, rules, x.atoms, &mut none[..]);
+    let y = gather(program, rules, x.atoms, x.ins, x.outs, &mut none[..]);
     decide(y, x, guess)
 }
 
@@ -69,6 +69,6 @@ pub fn belief_sets(words: &[u16], x: Outline, guess: u16, out: &mut [u16]) -> us
 {
     let mut program = [0u16; 256];
     let rules = reduct(words, x, guess, &mut program[..]);
-    let y = gather(&program[..], rules, x.atoms, &mut out[..]);
+    let y = gather(&program[..], rules, x.atoms, x.ins, x.outs, &mut out[..]);
     y.sets
 }

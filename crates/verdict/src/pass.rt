@@ -4,12 +4,14 @@ use sets::power;
 use stable::Tested;
 use stable::test_set;
 ghost use mathlib.Core.Path.{_≡_};
+ghost use mathlib.Core.List.{_++_};
 ghost use Prim.Native.Nat.{_*_, _≤_};
 ghost use lib.ListN.{length, set};
 ghost use Rattle.semantics.specs.Words.{programRoom, programIn};
 ghost use Rattle.semantics.specs.Definitions.Sheet.{mostAtoms};
 ghost use Rattle.semantics.specs.Definitions.Stable.{stableSets};
 ghost use Rattle.semantics.specs.Definitions.Pass.{gathered};
+ghost use Rattle.semantics.specs.Definitions.Day.{dayConstraints};
 ghost use Rattle.verdict.specs.Verdicts.{gatheredBy};
 ghost use Rattle.verdict.specs.Over.{over};
 
@@ -31,12 +33,19 @@ fn put(i: u16, n: usize, out: &mut [u16])
     }
 }
 
-// Known and possible in one pass, which tests each set of atoms once; and the stable sets themselves, by rising number, as many as there
-// are words lent. The rule that failed last is asked first (at the beginning rule 0): it often fails again.
-pub fn gather(program: &[u16], rules: usize, atoms: usize, out: &mut [u16]) -> Gathered
+// Known and possible in one pass, which tests each set of atoms once, under the day's masks; and the sets that pass, by rising number, as
+// many as there are words lent. What failed last, a rule or the masks, is asked first (at the beginning rule 0): it often fails again.
+pub fn gather(
+    program: &[u16],
+    rules: usize,
+    atoms: usize,
+    ins: u16,
+    outs: u16,
+    out: &mut [u16],
+) -> Gathered
     requires { ⌜ (4 * rules ≤ length (now program)) × (rules ≤ programRoom) × (atoms ≤ mostAtoms) ⌝ }
-    ensures { λ r. ⌜ gatheredBy r ≡ gathered atoms (programIn (now (program .entry)) rules) ⌝ }
-    ensures { λ r. ⌜ now (out .exit) ≡ over (stableSets atoms (programIn (now (program .entry)) rules)) (now (out .entry)) ⌝ }
+    ensures { λ r. ⌜ gatheredBy r ≡ gathered atoms (programIn (now (program .entry)) rules ++ dayConstraints ins outs) ⌝ }
+    ensures { λ r. ⌜ now (out .exit) ≡ over (stableSets atoms (programIn (now (program .entry)) rules ++ dayConstraints ins outs)) (now (out .entry)) ⌝ }
 {
     let end = power(atoms as u16);
     let mut room = [0u16; 128];
@@ -47,7 +56,7 @@ pub fn gather(program: &[u16], rules: usize, atoms: usize, out: &mut [u16]) -> G
     let mut first = 0;
     let mut i = 0;
     while i != end {
-        match test_set(program, rules, i, first, &mut room[..]) {
+        match test_set(program, rules, ins, outs, i, first, &mut room[..]) {
             Tested::Stable => {
                 put(i, sets, &mut out[..]);
                 known = known & i;

@@ -68,12 +68,12 @@ fn each_set(sheet: &[u8], sets: &[u16], n: usize)
     }
 }
 
-// The belief sets of a guess. There are no more than 2^15, one word each, so they are not refused.
+// The belief sets of a guess, without day masks. There are no more than 2^15, one word each, so they are not refused.
 fn sets_of(sheet: &[u8], guess: u16)
     requires { ⌜ ((s : Setting) × GuessOf (ofSheet (now sheet)) guess s) ⌝ }
 {
     let mut sets = [0u16; 32768];
-    match belief_sets(sheet, guess as u32, &mut sets) {
+    match belief_sets(sheet, 0, 0, guess as u32, &mut sets) {
         Counted::Accepted { count } => each_set(sheet, &sets, count),
         Counted::Refused { .. } => never(),
     }
@@ -99,12 +99,12 @@ fn each_view(sheet: &[u8], records: &[u16], n: usize)
     }
 }
 
-// The views and the tally of an accepted sheet. There are no more than 4,096, four words each, so the listing is not refused.
+// The views and the tally of an accepted sheet, without day masks. There are no more than 4,096, four words each, so the listing is not refused.
 fn listing(sheet: &[u8])
     requires { ⌜ ((s : Setting) × (ofSheet (now sheet) ≡ accepted s)) ⌝ }
 {
     let mut records = [0u16; 16384];
-    match list(sheet, &mut records) {
+    match list(sheet, 0, 0, &mut records) {
         Listed::Accepted {
             views,
             covered,

@@ -19,11 +19,15 @@
 //! assert_eq!(refusal.to_string(), "refusal 1: the sheet ends too soon, after 5 bytes");
 //! # Ok::<(), budkarv::Refusal>(())
 //! ```
+//!
+//! [`list_on`] takes atoms that are known for the day, too.
 
 mod archive;
+mod day;
 mod listing;
 mod refusal;
 
-pub use archive::list;
+pub use archive::{list, list_on};
+pub use day::Day;
 pub use listing::{Atoms, Counts, Listing, WorldView};
 pub use refusal::Refusal;

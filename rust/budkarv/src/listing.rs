@@ -32,10 +32,15 @@ pub struct WorldView {
 }
 
 /// A set of atoms, which are numbered from 0 in the order of their names on the sheet.
-#[derive(Clone, Copy, Debug, PartialEq, Eq, Hash)]
+#[derive(Clone, Copy, Debug, Default, PartialEq, Eq, Hash)]
 pub struct Atoms(u16);
 
 impl Atoms {
+    /// The set of a number: atom i for bit i.
+    pub fn from_bits(bits: u16) -> Self {
+        Atoms(bits)
+    }
+
     /// Whether the atom of this number is in the set.
     pub fn contains(self, atom: usize) -> bool {
         atom < 16 && self.0 >> atom & 1 == 1

@@ -11,7 +11,7 @@ pub struct Refusal {
 }
 
 impl Refusal {
-    /// The number of the refusal; `list` has those from 1 to 7.
+    /// The number of the refusal; `list` has those from 1 to 7, `list_on` 13 too.
     pub fn number(self) -> u32 {
         self.number
     }
@@ -29,7 +29,7 @@ impl Refusal {
 }
 
 impl fmt::Display for Refusal {
-    /// The number, and the words that `./views` prints too.
+    /// The number, and words: of 1 to 7 those that `./views` prints too.
     fn fmt(&self, f: &mut fmt::Formatter<'_>) -> fmt::Result {
         let Refusal { number, place } = *self;
         write!(f, "refusal {number}: ")?;
@@ -44,6 +44,7 @@ impl fmt::Display for Refusal {
             8 => write!(f, "the guess is not below 2^k"),
             9 => write!(f, "too few words lent for {place} sets or views"),
             10 => write!(f, "the atom is not below the number of atoms"),
+            13 => write!(f, "a day mask has a bit at or above the number of atoms, or an atom is in both"),
             _ => write!(f, "no such refusal"),
         }
     }

@@ -1,6 +1,7 @@
-//! Named sheets, most of them at the limits: for the benchmark and for the comparison of large listings.
+//! Named sheets, most of them at the limits, some of them under day masks: for the benchmark and for the comparison of
+//! large listings.
 
-use crate::cases::sheets::{one_known, pairs};
+use crate::cases::sheets::{free, one_known, pairs};
 use crate::known::kiln;
 use crate::random::{Random, SEED};
 use crate::solver::sheet::Rule;
@@ -23,6 +24,19 @@ pub fn named() -> Vec<(&'static str, Vec<u8>)> {
         ("choices, odd cycle", lettered(15, &choices_and_cycle())),
         ("three colours", lettered(15, &colours())),
         ("possible or not", lettered(15, &each(12, |a| rule(&[(HEAD, a), (NOT_M, a << 3)])))),
+    ]
+}
+
+/// Sheets with their names and day masks, in and out: free choices without, with few and with most of them in or out.
+pub fn masked() -> Vec<(&'static str, Vec<u8>, [u16; 2])> {
+    let (sheet, all) = (lettered(15, &free_choices()), free(15));
+    vec![
+        ("free choices, 1 in", sheet.clone(), [1, 0]),
+        ("free choices, 1 out", sheet.clone(), [0, 1]),
+        ("free choices, 3 in, 3 out", sheet.clone(), [0b00_0000_0111, 0b11_1000_0000]),
+        ("free choices, 5 in, 5 out", sheet, [0b01_0101_0101, 0b10_1010_1010]),
+        ("15 choices", all.clone(), [0, 0]),
+        ("15 choices, 5 in, 5 out", all, [0b11111, 0b11111 << 10]),
     ]
 }
 

@@ -2,13 +2,14 @@
 //!
 //! `solver` answers the calls of documents 01 and 02 by another method than the proved ones, and shares no code with
 //! them. `cases` are the requests that are stored for the program `calls`, many with answers by hand. The other modules
-//! make sheets, calendars and requests, run the programs and take their times.
+//! make sheets, calendars, day masks and requests, run the programs and take their times.
 
 pub mod calendars;
 pub mod cases;
 pub mod damage;
 pub mod known;
 pub mod large;
+pub mod masks;
 pub mod programs;
 pub mod random;
 pub mod request;

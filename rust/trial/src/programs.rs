@@ -1,5 +1,6 @@
 //! The programs `calls` and `views`, run on bytes: standard input is fed while standard output is read.
 
+use crate::request::Request;
 use std::io::{ErrorKind, Read, Write};
 use std::path::PathBuf;
 use std::process::{Child, ChildStdin, Command, Stdio};
@@ -41,4 +42,13 @@ pub fn output(name: &str, input: Vec<u8>, piece: usize) -> Vec<u8> {
     let status = child.wait().expect("the program ends");
     assert!(status.code().is_some(), "{name} was stopped: {status}");
     printed
+}
+
+/// The line of `calls` for each of these requests.
+pub fn lines_of(requests: &[Request]) -> Vec<String> {
+    let printed = output("calls", requests.iter().flat_map(Request::bytes).collect(), 1 << 16);
+    let printed = String::from_utf8(printed).expect("calls prints text");
+    let lines: Vec<String> = printed.lines().map(str::to_string).collect();
+    assert_eq!(lines.len(), requests.len(), "a line for each request");
+    lines
 }

@@ -1,7 +1,7 @@
 //! Requests of the program `calls`, and the line that the second solver gives for each. All numbers of a request have
 //! the low byte first.
 
-use crate::solver::calls::{open, Answer, Opened};
+use crate::solver::calls::{open, open_under, Answer, Opened};
 use crate::solver::listing::Verdict;
 use crate::solver::refusal::Refusal;
 use std::fmt;
@@ -19,8 +19,8 @@ pub const MOST_SHEET: usize = 2_048;
 pub const MOST_COMPANION: usize = 12_288;
 pub const MOST_CELLS: u16 = 33_000;
 
-/// One call. What it does not take is passed over: the masks by every call, the companion by all but `LIST_AT` and
-/// `CHANGES`, whose calendar it is.
+/// One call. What it does not take is passed over: the day masks, in and out, by `CHECK`, `LIST_AT` and `CHANGES`; the
+/// companion by all but `LIST_AT` and `CHANGES`, whose calendar it is.
 #[derive(Clone, Debug, Default, PartialEq, Eq)]
 pub struct Request {
     pub call: u8,
@@ -68,9 +68,22 @@ impl Request {
         (0..self.cells).map(|i| self.first.wrapping_add(i)).collect()
     }
 
+    /// The day masks, if the call takes them.
+    pub fn day(&self) -> Option<[u16; 2]> {
+        matches!(self.call, VERDICT | BELIEF_SETS | LIST | QUERY).then_some(self.masks)
+    }
+
+    /// The sheet, opened under the day masks if the call takes them.
+    pub fn opened(&self) -> Result<Opened, Refusal> {
+        match self.day() {
+            Some(masks) => open_under(&self.sheet, masks),
+            None => open(&self.sheet),
+        }
+    }
+
     /// The second solver's line.
     pub fn line(&self) -> Line {
-        self.line_on(&open(&self.sheet))
+        self.line_on(&self.opened())
     }
 
     /// The same, with the sheet opened before.

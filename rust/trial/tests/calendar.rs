@@ -2,7 +2,7 @@
 //! alone; the rules in force are found here once more.
 
 use trial::calendars::{edges, random_entries};
-use trial::programs::output;
+use trial::programs::lines_of;
 use trial::random::{seed, Random};
 use trial::request::*;
 use trial::sheets::{random_sheet, Shape};
@@ -61,11 +61,7 @@ fn later(from: u16, to: u16) -> u16 {
 
 /// The lines of the program, each without its call.
 fn answers(requests: &[Request]) -> Vec<String> {
-    let printed = output("calls", requests.iter().flat_map(Request::bytes).collect(), 1 << 16);
-    let printed = String::from_utf8(printed).expect("calls prints text");
-    let lines: Vec<String> = printed.lines().map(|line| line.split_once(' ').expect(line).1.to_string()).collect();
-    assert_eq!(lines.len(), requests.len(), "a line for each request");
-    lines
+    lines_of(requests).iter().map(|line| line.split_once(' ').expect(line).1.to_string()).collect()
 }
 
 /// "Listing at a minute is the listing of the sheet with only the rules in force": of its bytes.

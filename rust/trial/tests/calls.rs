@@ -4,6 +4,7 @@ use trial::calendars::{edges, random_entries};
 use trial::cases::sheets::free;
 use trial::damage::{damaged, damaged_calendar, too_many_negations};
 use trial::known::{kiln, titled};
+use trial::masks::{faulty_masks, random_masks, FAULTS};
 use trial::programs::output;
 use trial::random::{seed, Random};
 use trial::request::*;
@@ -35,8 +36,8 @@ fn compare(requests: &[Request], tail: &[u8], piece: usize, context: &str) -> Ve
 }
 
 /// How often each refusal came (0: accepted).
-fn by_number(lines: &[Line]) -> [usize; 13] {
-    let mut numbers = [0; 13];
+fn by_number(lines: &[Line]) -> [usize; 14] {
+    let mut numbers = [0; 14];
     lines.iter().for_each(|line| numbers[line.numbers[0] as usize] += 1);
     numbers
 }
@@ -74,6 +75,18 @@ fn argument(random: &mut Random, bound: usize) -> u32 {
     }
 }
 
+/// Day masks over so many atoms: mostly accepted ones, some with one thing wrong, some of any bits.
+fn masks(random: &mut Random, atoms: usize) -> [u16; 2] {
+    match random.below(12) {
+        0 => [random.word() as u16, random.word() as u16],
+        1 if atoms > 0 => {
+            let fault = random.pick(&FAULTS);
+            faulty_masks(random, atoms, fault)
+        }
+        _ => random_masks(random, atoms),
+    }
+}
+
 /// A companion that is passed over: mostly short, sometimes of any length or the longest.
 fn companion(random: &mut Random) -> Vec<u8> {
     let length = match random.below(40) {
@@ -104,17 +117,20 @@ fn cells(random: &mut Random, needed: usize) -> u16 {
 
 fn random_request(random: &mut Random, call: u8) -> Request {
     let sheet = random_bytes(random);
-    let opened = open(&sheet);
-    let [atoms, rules, negations] = opened.as_ref().map_or([3, 2, 3], Opened::check);
+    let [atoms, rules, negations] = open(&sheet).as_ref().map_or([3, 2, 3], Opened::check);
     let (companion, argument) = match call {
         LIST_AT | CHANGES => calendar_and_minute(random, rules),
         CHECK | LIST => (companion(random), 0),
         QUERY => (companion(random), argument(random, atoms)),
         _ => (companion(random), argument(random, 1 << negations)),
     };
-    let masks = [random.word() as u16, random.word() as u16];
+    let masks = match call {
+        CHECK | LIST_AT | CHANGES => [random.word() as u16, random.word() as u16],
+        _ => masks(random, atoms),
+    };
     let mut request = Request { call, sheet, argument, masks, companion, cells: 0, first: random.word() as u16 };
-    let needed = opened.ok().and_then(|opened| needed(&request, &opened)).unwrap_or_else(|| random.below(4));
+    let opened = request.opened().ok();
+    let needed = opened.and_then(|opened| needed(&request, &opened)).unwrap_or_else(|| random.below(4));
     request.cells = cells(random, needed);
     request
 }
@@ -143,7 +159,7 @@ fn many(call: u8, refusals: &[usize]) {
     let seed = seed();
     let mut random = Random::new(seed, 100 + u64::from(call));
     let context = format!("seed {seed}");
-    let (mut lines, mut of_calendars) = (Vec::new(), [0; 13]);
+    let (mut lines, mut of_calendars) = (Vec::new(), [0; 14]);
     for count in [100, 1_500, 1_600] {
         let requests: Vec<Request> = (0..count).map(|_| random_request(&mut random, call)).collect();
         lines.extend(compare(&requests, &[], 1 << 16, &context));
@@ -169,10 +185,10 @@ fn many(call: u8, refusals: &[usize]) {
 #[test]
 fn random_requests() {
     many(CHECK, &[1, 2, 3, 4, 5, 6, 7]);
-    many(VERDICT, &[1, 2, 3, 4, 5, 6, 7, 8]);
-    many(BELIEF_SETS, &[1, 2, 3, 4, 5, 6, 7, 8, 9]);
-    many(LIST, &[1, 2, 3, 4, 5, 6, 7, 9]);
-    many(QUERY, &[1, 2, 3, 4, 5, 6, 7, 10]);
+    many(VERDICT, &[1, 2, 3, 4, 5, 6, 7, 8, 13]);
+    many(BELIEF_SETS, &[1, 2, 3, 4, 5, 6, 7, 8, 9, 13]);
+    many(LIST, &[1, 2, 3, 4, 5, 6, 7, 9, 13]);
+    many(QUERY, &[1, 2, 3, 4, 5, 6, 7, 10, 13]);
     many(LIST_AT, &[1, 2, 3, 4, 5, 6, 7, 9, 11, 12]);
     many(CHANGES, &[1, 2, 3, 4, 5, 6, 7, 9, 11]);
 }
@@ -188,7 +204,7 @@ fn requests_in_small_pieces() {
     }
 }
 
-/// Each call on the kiln sheet, with a companion, which is a calendar: all are accepted.
+/// Each call on the kiln sheet, with day masks and a companion, which is a calendar: all are accepted.
 fn kiln_requests() -> Vec<Request> {
     let companion = calendar(&[(1, 100, 200)]);
     let request = Request { sheet: kiln(), masks: [1, 2], companion, cells: 5, ..Request::default() };

@@ -1,25 +1,36 @@
 //! The archive's function against the second solver, called as from C: the returned number and every byte of the lent
-//! buffer. And what `budkarv::list` makes of these bytes.
+//! buffer. And what `budkarv::list` and `budkarv::list_on` make of these bytes.
 
-use budkarv::{Listing, WorldView};
+use budkarv::{Atoms, Day, Listing, WorldView};
 use std::time::Instant;
 use trial::damage::{damaged, too_many_negations};
 use trial::known::{kiln, known, titled};
-use trial::large::named;
+use trial::large::{masked, named};
+use trial::masks::{faulty_masks, random_masks, FAULTS};
 use trial::random::{seed, Random};
 use trial::sheets::{random_names, random_sheet, Shape};
-use trial::solver::calls::{list_code, open, Opened};
+use trial::solver::calls::{list_code, open_under, Opened};
 use trial::solver::refusal::Refusal;
 use trial::write::*;
 
 extern "C" {
-    fn budkarv_list(sheet: *const u8, sheet_len: usize, out: *mut u8, out_len: usize) -> u32;
+    fn budkarv_list(
+        sheet: *const u8,
+        sheet_len: usize,
+        in_atoms: u16,
+        out_atoms: u16,
+        bytes: *mut u8,
+        bytes_len: usize,
+    ) -> u32;
 }
 
+/// No day masks.
+const NONE: [u16; 2] = [0, 0];
+
 /// The function of the archive: 0, or the refusal's number times 65,536 plus its place.
-fn desk_call(sheet: &[u8], out: &mut [u8]) -> u32 {
+fn desk_call(sheet: &[u8], [in_atoms, out_atoms]: [u16; 2], out: &mut [u8]) -> u32 {
     // SAFETY: both pairs are those of live slices, `out` is borrowed alone, and the function keeps neither pointer.
-    unsafe { budkarv_list(sheet.as_ptr(), sheet.len(), out.as_mut_ptr(), out.len()) }
+    unsafe { budkarv_list(sheet.as_ptr(), sheet.len(), in_atoms, out_atoms, out.as_mut_ptr(), out.len()) }
 }
 
 const SMALL: Shape = Shape { atoms: (0, 4), rules: (0, 7), negations: 4, literals: 3 };
@@ -31,7 +42,7 @@ const LARGE: Shape = Shape { atoms: (9, 12), rules: (8, 40), negations: 9, liter
 /// were made, and calls that were refused with 9.
 #[derive(Default)]
 struct Seen {
-    sheets: [usize; 8],
+    sheets: [usize; 14],
     guesses: [usize; 6],
     calls: usize,
     short: usize,
@@ -57,13 +68,20 @@ fn lengths(random: &mut Random, opened: &Result<Opened, Refusal>) -> Vec<usize> 
     vec![exact, exact - 2, exact - 1, exact + 1, 0, exact + random.between(2, 60)]
 }
 
+/// A sheet and day masks.
+type Pair = (Vec<u8>, [u16; 2]);
+
+fn shown((sheet, masks): &Pair) -> String {
+    format!("seed {}, sheet {}, masks {masks:?}", seed(), hex(sheet))
+}
+
 /// Calls both on a buffer filled with a pattern, and compares all of it.
-fn compare(sheet: &[u8], opened: &Result<Opened, Refusal>, length: usize, salt: u8, seed: u64) -> u32 {
+fn compare(pair: &Pair, opened: &Result<Opened, Refusal>, length: usize, salt: u8) -> u32 {
     let before: Vec<u8> = (0..length).map(|i| (i as u8).wrapping_mul(37) ^ salt).collect();
     let (mut ours, mut theirs) = (before.clone(), before.clone());
     let expected = list_code(opened, &mut theirs);
-    let code = desk_call(sheet, &mut ours);
-    let place = || format!("seed {seed}, {length} bytes lent, sheet {}", hex(sheet));
+    let code = desk_call(&pair.0, pair.1, &mut ours);
+    let place = || format!("{length} bytes lent, {}", shown(pair));
     assert_eq!(code, expected, "the returned number; {}", place());
     assert_eq!(ours, theirs, "the lent bytes; {}", place());
     if code != 0 {
@@ -72,9 +90,18 @@ fn compare(sheet: &[u8], opened: &Result<Opened, Refusal>, length: usize, salt: 
     code
 }
 
+/// The Rust call: without masks the one that takes none.
+fn rust_call((sheet, masks): &Pair) -> Result<Listing, budkarv::Refusal> {
+    let [in_atoms, out_atoms] = masks.map(Atoms::from_bits);
+    match *masks {
+        NONE => budkarv::list(sheet),
+        _ => budkarv::list_on(sheet, Day { in_atoms, out_atoms }),
+    }
+}
+
 /// Compares the answer of the Rust call.
-fn compare_types(sheet: &[u8], opened: &Result<Opened, Refusal>, seed: u64) {
-    let ours = budkarv::list(sheet).map(|Listing { counts: c, views }| {
+fn compare_types(pair: &Pair, opened: &Result<Opened, Refusal>) {
+    let ours = rust_call(pair).map(|Listing { counts: c, views }| {
         let words = |view: &WorldView| [view.guess, view.known.bits(), view.possible.bits(), view.sets];
         ([c.views, c.covered, c.ruled, c.tested, c.empty, c.other], views.iter().map(words).collect::<Vec<_>>())
     });
@@ -83,33 +110,38 @@ fn compare_types(sheet: &[u8], opened: &Result<Opened, Refusal>, seed: u64) {
         (listing.counts, listing.views.iter().map(|view| view.words()).collect())
     });
     let ours = ours.map_err(|refusal| Refusal { number: refusal.number(), place: refusal.place() });
-    assert_eq!(ours.as_ref(), theirs.as_ref().map_err(|&refusal| refusal), "seed {seed}, sheet {}", hex(sheet));
+    assert_eq!(ours.as_ref(), theirs.as_ref().map_err(|&refusal| refusal), "{}", shown(pair));
 }
 
-fn compare_all(sheet: &[u8], random: &mut Random, seed: u64, seen: &mut Seen) {
-    let opened = open(sheet);
+fn compare_all(pair: &Pair, random: &mut Random, seen: &mut Seen) {
+    let opened = open_under(&pair.0, pair.1);
     seen.sheet(&opened);
-    compare_types(sheet, &opened, seed);
+    compare_types(pair, &opened);
     for length in lengths(random, &opened) {
-        let code = compare(sheet, &opened, length, random.word() as u8, seed);
+        let code = compare(pair, &opened, length, random.word() as u8);
         seen.calls += 1;
         seen.short += usize::from(code >> 16 == 9);
     }
 }
 
-/// Compares so many sheets, and says what they were.
+/// Compares so many sheets without masks, and says what they were.
 fn run(title: &str, stream: u64, count: usize, mut next: impl FnMut(&mut Random) -> Vec<u8>) -> Seen {
+    run_under(title, stream, count, |random| (next(random), NONE))
+}
+
+/// The same under masks.
+fn run_under(title: &str, stream: u64, count: usize, mut next: impl FnMut(&mut Random) -> Pair) -> Seen {
     let seed = seed();
     let mut random = Random::new(seed, stream);
     let mut seen = Seen::default();
     let start = Instant::now();
     for _ in 0..count {
-        let sheet = next(&mut random);
-        compare_all(&sheet, &mut random, seed, &mut seen);
+        let pair = next(&mut random);
+        compare_all(&pair, &mut random, &mut seen);
     }
     let Seen { sheets, guesses, calls, short } = &seen;
     println!(
-        "{title}: seed {seed}, {count} sheets (accepted, refused with 1 to 7: {sheets:?}), \
+        "{title}: seed {seed}, {count} sheets (accepted, refused by number: {sheets:?}), \
          {calls} calls ({short} refused with 9), \
          guesses (views, covered, ruled, tested, empty, other: {guesses:?}), {:.1} s",
         start.elapsed().as_secs_f64()
@@ -153,7 +185,24 @@ fn damaged_sheets() {
         let sheet = random_sheet(random, &shape);
         damaged(random, &sheet)
     });
-    assert!(seen.sheets[1..].iter().all(|&count| count >= 100), "refusals 1 to 7 all occur: {:?}", seen.sheets);
+    assert!(seen.sheets[1..8].iter().all(|&count| count >= 100), "refusals 1 to 7 all occur: {:?}", seen.sheets);
+    assert!(seen.short >= 100, "refusal 9 occurs: {}", seen.short);
+}
+
+/// Sheets under masks, some damaged; one in seven of the masks has one thing wrong.
+#[test]
+fn sheets_under_masks() {
+    let seen = run_under("sheets under masks", 10, 6_000, |random| {
+        let shape = random.pick(&[SMALL, MIDDLE, DENSE]);
+        let sheet = random_sheet(random, &shape);
+        let atoms = usize::from(sheet[0]);
+        let fault = random.pick(&FAULTS);
+        let faulty = random.below(7) == 0 && atoms > 0;
+        let masks = if faulty { faulty_masks(random, atoms, fault) } else { random_masks(random, atoms) };
+        (if random.chance(10) { damaged(random, &sheet) } else { sheet }, masks)
+    });
+    assert!([0, 1, 5, 6, 13].iter().all(|&number| seen.sheets[number] >= 20), "refusals: {:?}", seen.sheets);
+    assert!(seen.guesses.iter().all(|&guesses| guesses > 300), "every count occurs: {:?}", seen.guesses);
     assert!(seen.short >= 100, "refusal 9 occurs: {}", seen.short);
 }
 
@@ -170,6 +219,9 @@ fn named_sheets() {
     let mut left = sheets.iter().map(|(_, sheet)| sheet.clone());
     let seen = run("named sheets", 9, sheets.len(), |_| left.next().expect("as many sheets"));
     assert_eq!(seen.sheets[0], sheets.len(), "every sheet is accepted");
+    let mut left = masked().into_iter().map(|(_, sheet, masks)| (sheet, masks));
+    let seen = run_under("named sheets under masks", 11, masked().len(), |_| left.next().expect("as many sheets"));
+    assert_eq!(seen.sheets[0], masked().len(), "every sheet and all masks are accepted");
 }
 
 /// One sheet for each refusal of the desk call, by hand: the number, and every byte kept whatever the buffer's length.
@@ -187,12 +239,26 @@ fn refused_calls_keep_every_byte() {
         (9 << 16 | 2, titled("6:").sheet),
     ];
     for (code, sheet) in refused {
-        for length in 0..28 {
-            let mut out: Vec<u8> = (0..length).map(|i| 200 - i).collect();
-            let before = out.clone();
-            assert_eq!(desk_call(&sheet, &mut out), code, "sheet {}, {length} bytes", hex(&sheet));
-            assert_eq!(out, before, "sheet {}, {length} bytes", hex(&sheet));
+        refused_so(code, &(sheet.clone(), NONE));
+        if code >> 16 < 9 {
+            refused_so(code, &(sheet, [65_535, 65_535]));
         }
+    }
+    let six = || titled("6:").sheet;
+    for masks in [[4, 0], [0, 4], [32_768, 0], [0, 32_768], [1, 1], [3, 2], [3, 3]] {
+        refused_so(13 << 16, &(six(), masks));
+    }
+    refused_so(13 << 16, &(vec![0, 0], [1, 0]));
+    refused_so(13 << 16, &(vec![0, 0], [0, 1]));
+}
+
+/// Buffers of less than 28 bytes, which are too short for two views.
+fn refused_so(code: u32, pair: &Pair) {
+    for length in 0..28 {
+        let mut out: Vec<u8> = (0..length).map(|i| 200 - i).collect();
+        let before = out.clone();
+        assert_eq!(desk_call(&pair.0, pair.1, &mut out), code, "{}, {length} bytes", shown(pair));
+        assert_eq!(out, before, "{}, {length} bytes", shown(pair));
     }
 }
 
@@ -200,9 +266,20 @@ fn refused_calls_keep_every_byte() {
 #[test]
 fn pairs_of_bytes() {
     let mut out = [0xEE; 29];
-    assert_eq!(desk_call(&titled("6:").sheet, &mut out), 0);
+    assert_eq!(desk_call(&titled("6:").sheet, NONE, &mut out), 0);
     assert_eq!(out[..12], [2, 0, 1, 0, 1, 0, 2, 0, 0, 0, 0, 0]);
     assert_eq!(out[12..], [1, 0, 2, 0, 2, 0, 1, 0, 2, 0, 1, 0, 1, 0, 1, 0, 0xEE]);
+}
+
+/// The same with a in, and with a out: one view, by hand, and the bytes after its record are kept.
+#[test]
+fn pairs_of_bytes_under_masks() {
+    for (masks, record) in [([1, 0], [2, 0, 1, 0, 1, 0, 1, 0]), ([0, 1], [1, 0, 2, 0, 2, 0, 1, 0])] {
+        let mut out = [0xEE; 22];
+        assert_eq!(desk_call(&titled("6:").sheet, masks, &mut out), 0);
+        assert_eq!(out[..12], [1, 0, 1, 0, 2, 0, 1, 0, 0, 0, 0, 0], "{masks:?}");
+        assert_eq!((&out[12..20], &out[20..]), (&record[..], &[0xEE; 2][..]), "{masks:?}");
+    }
 }
 
 /// 15 atoms with names of 12 bytes and 64 rules; twelve negations, or thirteen, which are refused.

@@ -1,7 +1,7 @@
 -- `desk::budkarv_list` meets its contract. Assumes nothing.
 use mathlib.Core.Path.{refl}
 use native.Mathlib.Omega.{arith}
-use Rattle.semantics.specs.Theorems.Source.{sheet-bounded}
+use Rattle.semantics.specs.Theorems.DaySource.{day-bounded}
 use Rattle.desk.proofs.Laws.{small, small-refusal, met, too-short, refused-too, fits, records-fit}
 use borrow.Author.Needs.{needs}
 use Rattle.desk.proofs.budkarv_list.Statement.{statement}
@@ -20,14 +20,14 @@ mul-if1 : tie.Need-mul-if1
 mul-if1 c =
     let l = c .before .before .before .before .list in
     let told = c .before .views .given .1 in
-    let h = small _ (sheet-bounded _) _ (l .ensures .0) told in
+    let h = small _ (day-bounded _ _ _) _ (l .ensures .0) told in
     omega (arith, h)
 
 add-if1 : tie.Need-add-if1
 add-if1 c =
     let l = c .before .before .before .before .list in
     let told = c .before .views .given .1 in
-    let h = small _ (sheet-bounded _) _ (l .ensures .0) told in
+    let h = small _ (day-bounded _ _ _) _ (l .ensures .0) told in
     omega (arith, h)
 
 mul-result : tie.Need-mul-result
@@ -37,14 +37,14 @@ cast-result : tie.Need-cast-result
 cast-result c =
     let l = c .before .before .before .before .before .list in
     let told = c .before .before .views .given .1 in
-    let h = small _ (sheet-bounded _) _ (l .ensures .0) told in
+    let h = small _ (day-bounded _ _ _) _ (l .ensures .0) told in
     omega (arith, h)
 
 add-result : tie.Need-add-result
 add-result c =
     let l = c .before .before .before .before .before .list in
     let told = c .before .before .views .given .1 in
-    let h = small _ (sheet-bounded _) _ (l .ensures .0) told in
+    let h = small _ (day-bounded _ _ _) _ (l .ensures .0) told in
     omega (arith, h)
 
 returns : tie.Need-returns
@@ -52,7 +52,7 @@ returns c =
     let a = c .before .before .before .before .before .before .before .before .before .args in
     let l = c .before .before .before .before .before .list in
     let told = c .before .before .views .given .1 in
-    met _ (sheet-bounded (a .sheet .now)) (a .out .now) (too-short _ (sheet-bounded _) _ (l .ensures .0) told (a .out .now) (omega (arith, c .if1 .taken)))
+    met (a .sheet .now) (a .ins) (a .outs) (a .bytes .now) (too-short _ (day-bounded _ _ _) _ (l .ensures .0) told (a .bytes .now) (omega (arith, c .if1 .taken)))
 
 slice-aggregate-write-listing : tie.Need-slice-aggregate-write-listing
 slice-aggregate-write-listing c = search needs
@@ -61,7 +61,7 @@ write-listing-requires : tie.Need-write-listing-requires
 write-listing-requires c κs =
     let l = c .before .before .before .before .before .before .before .list in
     let told = c .before .before .before .before .views .given .1 in
-    (small _ (sheet-bounded _) _ (l .ensures .0) told, records-fit _ (sheet-bounded _) _ (l .ensures .0) told _ refl (l .ensures .1 .0), omega (arith, c .before .before .if1 .left))
+    (small _ (day-bounded _ _ _) _ (l .ensures .0) told, records-fit _ (day-bounded _ _ _) _ (l .ensures .0) told _ refl (l .ensures .1 .0), omega (arith, c .before .before .if1 .left))
 
 enum-known-number : tie.Need-enum-known-number
 enum-known-number c = search needs
@@ -76,14 +76,14 @@ cast-result-3 : tie.Need-cast-result-3
 cast-result-3 c =
     let l = c .before .before .before .before .list in
     let told = c .before .number .given .1 in
-    let h = small-refusal _ (sheet-bounded _) _ (l .ensures .0) told (omega arith) in
+    let h = small-refusal _ (day-bounded _ _ _) _ (l .ensures .0) told (omega arith) in
     omega (arith, h)
 
 add-result-2 : tie.Need-add-result-2
 add-result-2 c =
     let l = c .before .before .before .before .list in
     let told = c .before .number .given .1 in
-    let h = small-refusal _ (sheet-bounded _) _ (l .ensures .0) told (omega arith) in
+    let h = small-refusal _ (day-bounded _ _ _) _ (l .ensures .0) told (omega arith) in
     omega (arith, h)
 
 same-length : tie.Need-same-length
@@ -94,14 +94,14 @@ returns-2 c =
     let a = c .before .before .before .before .before .before .before .before .before .before .before .before .before .before .args in
     let l = c .before .before .before .before .before .before .before .before .before .before .list in
     let told = c .before .before .before .before .before .before .before .views .given .1 in
-    met _ (sheet-bounded (a .sheet .now)) (a .out .now) (fits _ (sheet-bounded _) _ (l .ensures .0) told _ (a .out .now) (l .ensures .1 .0) (omega (arith, c .before .before .before .before .before .if1 .left)) (c .before .before .write-listing .ensures))
+    met (a .sheet .now) (a .ins) (a .outs) (a .bytes .now) (fits _ (day-bounded _ _ _) _ (l .ensures .0) told _ (a .bytes .now) (l .ensures .1 .0) (omega (arith, c .before .before .before .before .before .if1 .left)) (c .before .before .write-listing .ensures))
 
 returns-3 : tie.Need-returns-3
 returns-3 c =
     let a = c .before .before .before .before .before .before .before .before .args in
     let l = c .before .before .before .before .list in
     let told = c .before .number .given .1 in
-    met _ (sheet-bounded (a .sheet .now)) (a .out .now) (refused-too _ (sheet-bounded _) _ (l .ensures .0) told (omega arith) (a .out .now))
+    met (a .sheet .now) (a .ins) (a .outs) (a .bytes .now) (refused-too _ (day-bounded _ _ _) _ (l .ensures .0) told (omega arith) (a .bytes .now))
 
 pub budkarv-list-spec : {M : Type 1} → statement M
 budkarv-list-spec =

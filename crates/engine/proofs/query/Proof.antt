@@ -1,7 +1,7 @@
 -- `engine::query` meets its contract. Assumes nothing.
 use mathlib.Core.Path.{ap, _∙_}
 use native.Mathlib.Omega.{arith}
-use Rattle.semantics.specs.Definitions.Check.{ofSheet}
+use Rattle.semantics.specs.Definitions.Day.{ofDay}
 use Rattle.semantics.specs.Definitions.Returned.{accepted}
 use Rattle.semantics.specs.Definitions.Calls.{forAtom}
 use Rattle.listing.specs.Records.{viewsIn}
@@ -16,14 +16,14 @@ use Rattle.engine.proofs.query.Tie as tie
 -- what was read, with the atom judged
 read : (c : tie.After-for-atom) →
     let a = c .before .before .before .before .before .args in
-    Reads (forAtom (ofSheet (a .sheet .now)) (a .atom)) (c .for-atom .result) (c .before .before .of-sheet .last .1 .0)
-read c = c .for-atom .ensures (ofSheet (c .before .before .before .before .before .args .sheet .now)) _ (c .before .before .of-sheet .ensures .1)
+    Reads (forAtom (ofDay (a .sheet .now) (a .ins) (a .outs)) (a .atom)) (c .for-atom .result) (c .before .before .of-day .last .1 .1 .1 .0)
+read c = c .for-atom .ensures (ofDay (c .before .before .before .before .before .args .sheet .now) (c .before .before .before .before .before .args .ins) (c .before .before .before .before .before .args .outs)) _ (c .before .before .of-day .ensures .1)
 
-slice-aggregate-of-sheet : tie.Need-slice-aggregate-of-sheet
-slice-aggregate-of-sheet c = search needs
+slice-aggregate-of-day : tie.Need-slice-aggregate-of-day
+slice-aggregate-of-day c = search needs
 
-of-sheet-requires : tie.Need-of-sheet-requires
-of-sheet-requires c κs = search needs
+of-day-requires : tie.Need-of-day-requires
+of-day-requires c κs = search needs
 
 for-atom-requires : tie.Need-for-atom-requires
 for-atom-requires c κs = search needs
@@ -40,16 +40,16 @@ slice-aggregate-list-in-order-2 c = search needs
 list-in-order-requires : tie.Need-list-in-order-requires
 list-in-order-requires c κs =
     let a = c .before .before .before .before .before .before .before .before .before .before .args in
-    (outlined (forAtom (ofSheet (a .sheet .now)) (a .atom)) _ _ (read (c .before .before .before .before .before)) (c .before .before .before .x .given .1), search needs)
+    (outlined (forAtom (ofDay (a .sheet .now) (a .ins) (a .outs)) (a .atom)) _ _ (read (c .before .before .before .before .before)) (c .before .before .before .x .given .1), search needs)
 
 returns : tie.Need-returns
 returns c =
     let a = c .before .before .before .before .before .before .before .before .before .before .before .before .before .before .args in
-    let from = ofSheet (a .sheet .now) in
+    let from = ofDay (a .sheet .now) (a .ins) (a .outs) in
     let w = c .before .before .before .list-in-order in
     let records = w .last .1 .1 .0 in
     let n = w .result .views in
-    query-met from (a .atom) None
+    query-met (a .sheet .now) (a .ins) (a .outs) (a .atom) None
     (ap accepted (answers-none records n (a .atom) (c .if1 .taken))
     ∙ answers-query from (a .atom) _ _ (read (c .before .before .before .before .before .before .before .before .before)) (c .before .before .before .before .before .before .before .x .given .1) (viewsIn records n) (w .ensures .1 .1 .1))
 
@@ -59,13 +59,13 @@ slice-aggregate-yes-no-open c = search needs
 cast-yes-no-open : tie.Need-cast-yes-no-open
 cast-yes-no-open c =
     let a = c .before .before .before .before .before .before .before .before .before .before .before .before .before .before .before .args in
-    let h = is-atom (ofSheet (a .sheet .now)) (a .atom) _ _ (read (c .before .before .before .before .before .before .before .before .before .before)) (c .before .before .before .before .before .before .before .before .x .given .1) in
+    let h = is-atom (ofDay (a .sheet .now) (a .ins) (a .outs)) (a .atom) _ _ (read (c .before .before .before .before .before .before .before .before .before .before)) (c .before .before .before .before .before .before .before .before .x .given .1) in
     omega (arith, h)
 
 yes-no-open-requires : tie.Need-yes-no-open-requires
 yes-no-open-requires c κs =
     let a = c .before .before .before .before .before .before .before .before .before .before .before .before .before .before .before .args in
-    let h = is-atom (ofSheet (a .sheet .now)) (a .atom) _ _ (read (c .before .before .before .before .before .before .before .before .before .before)) (c .before .before .before .before .before .before .before .before .x .given .1) in
+    let h = is-atom (ofDay (a .sheet .now) (a .ins) (a .outs)) (a .atom) _ _ (read (c .before .before .before .before .before .before .before .before .before .before)) (c .before .before .before .before .before .before .before .before .x .given .1) in
     (search needs, h)
 
 enum-known-number : tie.Need-enum-known-number
@@ -74,25 +74,25 @@ enum-known-number c = search needs
 returns-2 : tie.Need-returns-2
 returns-2 c =
     let a = c .before .before .before .before .before .before .before .before .before .before .before .before .before .before .before .before .args in
-    let from = ofSheet (a .sheet .now) in
+    let from = ofDay (a .sheet .now) (a .ins) (a .outs) in
     let w = c .before .before .before .before .before .list-in-order in
     let records = w .last .1 .1 .0 in
     let n = w .result .views in
-    query-met from (a .atom) _
+    query-met (a .sheet .now) (a .ins) (a .outs) (a .atom) _
     (c .yes-no-open .ensures ∙ ap accepted (answers-three records n (a .atom) (c .before .before .if1 .left))
     ∙ answers-query from (a .atom) _ _ (read (c .before .before .before .before .before .before .before .before .before .before .before)) (c .before .before .before .before .before .before .before .before .before .x .given .1) (viewsIn records n) (w .ensures .1 .1 .1))
 
 returns-3 : tie.Need-returns-3
 returns-3 c =
     let a = c .before .before .before .before .before .before .before .before .args in
-    query-met (ofSheet (a .sheet .now)) (a .atom) (Refused _ _) (query-turned-back (ofSheet (a .sheet .now)) (a .atom) _ _ (read (c .before .before .before)) (c .before .number .given .1))
+    query-met (a .sheet .now) (a .ins) (a .outs) (a .atom) (Refused _ _) (query-turned-back (ofDay (a .sheet .now) (a .ins) (a .outs)) (a .atom) _ _ (read (c .before .before .before)) (c .before .number .given .1))
 
 pub query-spec : {M : Type 1} → statement M
 query-spec =
     tie.close
     (tie.spec
-    slice-aggregate-of-sheet
-    of-sheet-requires
+    slice-aggregate-of-day
+    of-day-requires
     for-atom-requires
     enum-known-x
     slice-aggregate-list-in-order

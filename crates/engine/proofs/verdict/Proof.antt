@@ -1,6 +1,6 @@
 -- `engine::verdict` meets its contract. Assumes nothing.
 use native.Mathlib.Omega.{arith}
-use Rattle.semantics.specs.Definitions.Check.{ofSheet}
+use Rattle.semantics.specs.Definitions.Day.{ofDay}
 use Rattle.semantics.specs.Definitions.Calls.{forGuess}
 use Rattle.engine.specs.declared.Judged.the-variants.{Empty, Other, Verified, Refused}
 use Rattle.engine.specs.Sources.{Reads}
@@ -12,17 +12,17 @@ use Rattle.engine.proofs.verdict.Tie as tie
 -- what was read, with the guess judged
 read : (c : tie.After-for-guess) →
     let a = c .before .before .before .before .before .args in
-    Reads (forGuess (ofSheet (a .sheet .now)) (a .guess)) (c .for-guess .result) (c .before .before .of-sheet .last .1 .0)
-read c = c .for-guess .ensures (ofSheet (c .before .before .before .before .before .args .sheet .now)) _ (c .before .before .of-sheet .ensures .1)
+    Reads (forGuess (ofDay (a .sheet .now) (a .ins) (a .outs)) (a .guess)) (c .for-guess .result) (c .before .before .of-day .last .1 .1 .1 .0)
+read c = c .for-guess .ensures (ofDay (c .before .before .before .before .before .args .sheet .now) (c .before .before .before .before .before .args .ins) (c .before .before .before .before .before .args .outs)) _ (c .before .before .of-day .ensures .1)
 
-slice-aggregate-of-sheet : tie.Need-slice-aggregate-of-sheet
-slice-aggregate-of-sheet c = search needs
+slice-aggregate-of-day : tie.Need-slice-aggregate-of-day
+slice-aggregate-of-day c = search needs
 
-of-sheet-requires : tie.Need-of-sheet-requires
-of-sheet-requires c κs = search needs
+of-day-requires : tie.Need-of-day-requires
+of-day-requires c κs = search needs
 
 for-guess-requires : tie.Need-for-guess-requires
-for-guess-requires c κs = within (ofSheet (c .before .before .before .before .args .sheet .now)) _ (c .before .of-sheet .result) (c .before .of-sheet .ensures .1)
+for-guess-requires c κs = within (ofDay (c .before .before .before .before .args .sheet .now) (c .before .before .before .before .args .ins) (c .before .before .before .before .args .outs)) _ (c .before .of-day .result) (c .before .of-day .ensures .1)
 
 enum-known-x : tie.Need-enum-known-x
 enum-known-x c = search needs
@@ -33,12 +33,12 @@ slice-aggregate-verdict-on c = search needs
 cast-verdict-on : tie.Need-cast-verdict-on
 cast-verdict-on c =
     let a = c .before .before .before .before .before .before .before .before .before .args in
-    omega (arith, guess-fits (ofSheet (a .sheet .now)) (a .guess) _ _ (read (c .before .before .before .before)) (c .before .before .x .given .1))
+    omega (arith, guess-fits (ofDay (a .sheet .now) (a .ins) (a .outs)) (a .guess) _ _ (read (c .before .before .before .before)) (c .before .before .x .given .1))
 
 verdict-on-requires : tie.Need-verdict-on-requires
 verdict-on-requires c κs =
     let a = c .before .before .before .before .before .before .before .before .before .args in
-    outlined (forGuess (ofSheet (a .sheet .now)) (a .guess)) _ _ (read (c .before .before .before .before)) (c .before .before .x .given .1)
+    outlined (forGuess (ofDay (a .sheet .now) (a .ins) (a .outs)) (a .guess)) _ _ (read (c .before .before .before .before)) (c .before .before .x .given .1)
 
 enum-told : tie.Need-enum-told
 enum-told c = search needs
@@ -55,32 +55,32 @@ enum-known-number c = search needs
 returns : tie.Need-returns
 returns c =
     let a = c .before .before .before .before .before .before .before .before .before .before .before .before .args in
-    verdict-met (ofSheet (a .sheet .now)) (a .guess) Empty
-    (judged-as (ofSheet (a .sheet .now)) (a .guess) _ _ (read (c .before .before .before .before .before .before .before)) (c .before .before .before .before .before .x .given .1) (c .before .before .verdict-on .ensures) (c .enum-told .given .1))
+    verdict-met (a .sheet .now) (a .ins) (a .outs) (a .guess) Empty
+    (judged-as (ofDay (a .sheet .now) (a .ins) (a .outs)) (a .guess) _ _ (read (c .before .before .before .before .before .before .before)) (c .before .before .before .before .before .x .given .1) (c .before .before .verdict-on .ensures) (c .enum-told .given .1))
 
 returns-2 : tie.Need-returns-2
 returns-2 c =
     let a = c .before .before .before .before .before .before .before .before .before .before .before .before .before .args in
-    verdict-met (ofSheet (a .sheet .now)) (a .guess) (Other _)
-    (judged-as (ofSheet (a .sheet .now)) (a .guess) _ _ (read (c .before .before .before .before .before .before .before .before)) (c .before .before .before .before .before .before .x .given .1) (c .before .before .before .verdict-on .ensures) (c .before .found .given .1))
+    verdict-met (a .sheet .now) (a .ins) (a .outs) (a .guess) (Other _)
+    (judged-as (ofDay (a .sheet .now) (a .ins) (a .outs)) (a .guess) _ _ (read (c .before .before .before .before .before .before .before .before)) (c .before .before .before .before .before .before .x .given .1) (c .before .before .before .verdict-on .ensures) (c .before .found .given .1))
 
 returns-3 : tie.Need-returns-3
 returns-3 c =
     let a = c .before .before .before .before .before .before .before .before .before .before .before .before .before .args in
-    verdict-met (ofSheet (a .sheet .now)) (a .guess) (Verified _ _ _)
-    (judged-as (ofSheet (a .sheet .now)) (a .guess) _ _ (read (c .before .before .before .before .before .before .before .before)) (c .before .before .before .before .before .before .x .given .1) (c .before .before .before .verdict-on .ensures) (c .before .known .given .1))
+    verdict-met (a .sheet .now) (a .ins) (a .outs) (a .guess) (Verified _ _ _)
+    (judged-as (ofDay (a .sheet .now) (a .ins) (a .outs)) (a .guess) _ _ (read (c .before .before .before .before .before .before .before .before)) (c .before .before .before .before .before .before .x .given .1) (c .before .before .before .verdict-on .ensures) (c .before .known .given .1))
 
 returns-4 : tie.Need-returns-4
 returns-4 c =
     let a = c .before .before .before .before .before .before .before .before .args in
-    verdict-met (ofSheet (a .sheet .now)) (a .guess) (Refused _ _) (verdict-turned-back (ofSheet (a .sheet .now)) (a .guess) _ _ (read (c .before .before .before)) (c .before .number .given .1))
+    verdict-met (a .sheet .now) (a .ins) (a .outs) (a .guess) (Refused _ _) (verdict-turned-back (ofDay (a .sheet .now) (a .ins) (a .outs)) (a .guess) _ _ (read (c .before .before .before)) (c .before .number .given .1))
 
 pub verdict-spec : {M : Type 1} → statement M
 verdict-spec =
     tie.close
     (tie.spec
-    slice-aggregate-of-sheet
-    of-sheet-requires
+    slice-aggregate-of-day
+    of-day-requires
     for-guess-requires
     enum-known-x
     slice-aggregate-verdict-on

@@ -5,7 +5,7 @@ use native.Mathlib.Decide.{ℕ-discrete}
 use lib.Count.{ones, onesIn}
 use lib.ListN.{length}
 use Rattle.sets.specs.Lists.{every, some, keep, flat, upTo, downFrom, sameList}
-use Rattle.sets.specs.Sets.{setOf}
+use Rattle.sets.specs.Sets.{setOf, membersOf}
 use Rattle.semantics.specs.Definitions.Reading.{times}
 use Rattle.semantics.specs.Definitions.Sheet.{longestSheet, countAt, nameByteAt, nameAt, maskAt, ruleAt, sections}
 use Rattle.semantics.specs.Definitions.Reduct.{reductRule, reduct}
@@ -23,6 +23,7 @@ use Rattle.semantics.specs.Definitions.Desk.{deskCall, deskNumber, deskB
 use Rattle.semantics.specs.Definitions.Program.{digits, namesOf, printed}
 use Rattle.semantics.specs.Definitions.Calendar.{entryAt, calendarOf, openAt, inForce, ofMinute}
 use Rattle.semantics.specs.Definitions.Pass.{gathered, onePass}
+use Rattle.semantics.specs.Definitions.Day.{dayConstraints, underMasks, ofDay}
 use Rattle.semantics.specs.Walk.{walk}
 use Rattle.semantics.specs.Theorems.CalendarPlaces.{longestCalendar}
 use Rattle.semantics.specs.Examples.Sheets.{Listed, zeros, ten, kiln, sheet-6}
@@ -37,6 +38,7 @@ use Rattle.semantics.specs.Examples.Calendars.{longestHours, calendars, 
 use Rattle.semantics.specs.Examples.Minutes.{minuteListings}
 use Rattle.semantics.specs.Examples.Changed.{Changed, changed, LongestChanged, longest-changed}
 use Rattle.semantics.specs.Examples.Passes.{passes}
+use Rattle.semantics.specs.Examples.Days.{dayVerdicts, daySets, dayContradicted, dayListings, dayDesk, dayQueries}
 
 -- the list of a setting by the definitions, and by the walk along the order
 abbrev listed : Setting → List View × Tally
@@ -84,9 +86,17 @@ pub record Computed : Type 0 where
   -- document 02, K2: what is gathered, by the walks over W and by the one pass
   pub gathered-are : map (λ p. answer (λ s. gathered (s .atoms) (s .program (p .1))) (ofSheet (p .0))) passes ≡ map (λ p. accepted (p .2)) passes
   pub passes-gather : map (λ p. answer (λ s. onePass (s .atoms) (s .program (p .1))) (ofSheet (p .0))) passes ≡ map (λ p. accepted (p .2)) passes
+  -- document 02, K3: what the calls return under the day's masks, and which guesses are contradicted
+  pub day-verdicts-returned : map (λ p. verdictCall (ofDay (p .0) (p .1) (p .2)) (p .3)) dayVerdicts ≡ map (λ p. p .4) dayVerdicts
+  pub day-sets-returned : map (λ p. beliefSetsCall (ofDay (p .0) (p .1) (p .2)) (p .3) (p .4)) daySets ≡ map (λ p. p .5) daySets
+  pub day-contradicted-or-not : map (λ p. answer (λ s. contradicted s (p .3)) (ofDay (p .0) (p .1) (p .2))) dayContradicted ≡ map (λ p. accepted (p .4)) dayContradicted
+  pub day-listings-returned : map (λ p. listCall (ofDay (p .0) (p .1) (p .2)) (p .3)) dayListings ≡ map (λ p. p .4) dayListings
+  pub day-desk-returned : map (λ p. deskNumber (deskCall (ofDay (p .0) (p .1) (p .2)) (length (p .3)))) dayDesk ≡ map (λ p. p .4) dayDesk
+  pub day-desk-written : map (λ p. afterwards deskBytes (deskCall (ofDay (p .0) (p .1) (p .2)) (length (p .3))) (p .3)) dayDesk ≡ map (λ p. p .5) dayDesk
+  pub day-queries-answered : map (λ p. queryCall (ofDay (p .0) (p .1) (p .2)) (p .3)) dayQueries ≡ map (λ p. p .4) dayQueries
 
 pub computed : Computed
-unfolding ℕ-discrete ones onesIn every some keep flat upTo downFrom sameList setOf zeros times countAt nameByteAt nameAt maskAt ruleAt sections opened ofSheet check reductRule reduct reductAt smallerModel stable stableSets beliefSets guessFound verdict forGuess verdictCall beliefSetsCall steps contradicted order isWorldView covered tallyOf viewsAlong walk forAtom queryCall yesNoOpen answerBy digits namesOf printed entryAt calendarOf inForce ofMinute onePass
+unfolding ℕ-discrete ones onesIn every some keep flat upTo downFrom sameList setOf zeros times countAt nameByteAt nameAt maskAt ruleAt sections opened ofSheet check reductRule reduct reductAt smallerModel stable stableSets beliefSets guessFound verdict forGuess verdictCall beliefSetsCall steps contradicted order isWorldView covered tallyOf viewsAlong walk forAtom queryCall yesNoOpen answerBy digits namesOf printed entryAt calendarOf inForce ofMinute onePass membersOf dayConstraints underMasks
 computed = record {
   checks = refl;
   lists = refl;
@@ -111,4 +121,11 @@ computed = record {
   longest-changes = longest-changed;
   gathered-are = refl;
   passes-gather = refl;
+  day-verdicts-returned = refl;
+  day-sets-returned = refl;
+  day-contradicted-or-not = refl;
+  day-listings-returned = refl;
+  day-desk-returned = refl;
+  day-desk-written = refl;
+  day-queries-answered = refl;
 }

@@ -12,8 +12,11 @@ satisfied-requires c κs = search needs
 returns : tie.Need-returns
 returns c = rw (lt-ltb _ _ (c .before .if1 .taken)) (ap not (c .satisfied .ensures))
 
+has-and-lacks-requires : tie.Need-has-and-lacks-requires
+has-and-lacks-requires c κs = search needs
+
 returns-2 : tie.Need-returns-2
-returns-2 c = rw (le-ltb _ _ (c .if1 .left))
+returns-2 c = rw (le-ltb _ _ (c .before .if1 .left)) (ap not (c .has-and-lacks .ensures))
 
 pub fails-spec : {M : Type 1} → statement M
-fails-spec = tie.close (tie.spec satisfied-requires returns returns-2)
+fails-spec = tie.close (tie.spec satisfied-requires returns has-and-lacks-requires returns-2)

@@ -1,9 +1,9 @@
 -- `views::listing` is safe: the records of the views that were counted stand in the words lent, and the listing is not refused. Assumes
 -- nothing.
-use mathlib.Core.Path.{ap}
+use mathlib.Core.Path.{refl, ap}
 use native.Mathlib.Omega.{arith}
 use Rattle.engine.specs.Answers.{listed}
-use Rattle.views.proofs.Refusals.{listing-fits}
+use Rattle.views.proofs.Refusals.{without-masks, listing-fits}
 use borrow.Author.Needs.{needs}
 use Rattle.views.proofs.listing.Statement.{statement}
 use Rattle.views.proofs.listing.Tie as tie
@@ -23,8 +23,9 @@ slice-aggregate-each-view c = search needs
 each-view-requires : tie.Need-each-view-requires
 each-view-requires c κs =
     let w = c .before .before .before .before .before .list in
-    let r = w .ensures .1 .1 .listing-written _ (ap listed (c .before .before .views .given .1)) in
-    (omega (arith, r .fits, w .kept .1 .0), (r .of, r .accepts, r .records))
+    let a = c .before .before .before .before .before .before .before .before .args in
+    let r = w .ensures .1 .1 .0 .listing-written _ (ap listed (c .before .before .views .given .1)) in
+    (omega (arith, r .fits, w .kept .1 .1 .1 .0), (r .of, without-masks (a .sheet .now) (r .accepts), r .records))
 
 print-tally-requires : tie.Need-print-tally-requires
 print-tally-requires c κs = search needs
@@ -37,7 +38,7 @@ never-requires c κs =
     let a = c .before .before .before .before .before .before .args in
     let (s, h) = c .before .before .before .before .before .before .pre in
     let w = c .before .before .before .list in
-    listing-fits (a .sheet .now) h _ (w .ensures .0) (omega arith) (c .enum-told .given .1)
+    listing-fits (a .sheet .now) h _ (w .ensures .1 .1 .1 .both-zero refl refl .0) (omega arith) (c .enum-told .given .1)
 
 returns : tie.Need-returns
 returns c = search needs

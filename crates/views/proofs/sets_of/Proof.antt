@@ -20,7 +20,7 @@ slice-aggregate-each-set c = search needs
 each-set-requires : tie.Need-each-set-requires
 each-set-requires c κs =
     let w = c .before .before .before .before .before .belief-sets in
-    omega (arith, w .ensures .1 .1 .sets-written _ (c .before .before .count .given .1) .fits, w .kept .1 .1 .0)
+    omega (arith, w .ensures .1 .1 .0 .sets-written _ (c .before .before .count .given .1) .fits, w .kept .1 .1 .1 .1 .0)
 
 enum-told : tie.Need-enum-told
 enum-told c = search needs
@@ -30,7 +30,7 @@ never-requires c κs =
     let a = c .before .before .before .before .before .before .args in
     let (s, h) = c .before .before .before .before .before .before .pre in
     let w = c .before .before .before .belief-sets in
-    sets-fit (a .sheet .now) (a .guess) h _ _ (w .ensures .1 .1) (omega arith) (c .enum-told .given .1)
+    sets-fit (a .sheet .now) (a .guess) h _ _ (w .ensures .1 .1 .0) (omega arith) (c .enum-told .given .1)
 
 returns : tie.Need-returns
 returns c = search needs

@@ -13,7 +13,7 @@ Writes crates/calls/stdin and crates/calls/stdout from the cases. With --check t
 case that differs is named.";
 
 /// The most bytes of all lines.
-const MOST_LINES: usize = 500_000;
+const MOST_LINES: usize = 550_000;
 
 fn stored(name: &str) -> PathBuf {
     PathBuf::from(env!("CARGO_MANIFEST_DIR")).join("../../crates/calls").join(name)

@@ -1,11 +1,11 @@
 //! Cases of the two calls that take a calendar, the list at a minute and the minutes of change, with answers by hand
 //! from document 02.
 
+use super::rows::{self, rows, word};
 use super::sheets::{add, bad, put};
 use super::{hand, spaced, Case};
 use crate::known::{self, kiln, titled};
 use crate::request::{CHANGES, LIST_AT};
-use crate::text::good;
 use crate::write::*;
 
 /// A request a line, with the line that is owed.
@@ -18,29 +18,22 @@ pub fn cases() -> Vec<Case> {
 }
 
 fn answers() -> Vec<Case> {
-    ANSWERED.lines().filter(|row| !row.starts_with('#')).map(answered).collect()
+    rows(ANSWERED).map(answered).collect()
 }
 
 fn answered(row: &str) -> Case {
     let (request, line) = row.split_once(" = ").expect(row);
     let parts: Vec<&str> = request.split('/').map(str::trim).collect();
     let [sheet, entries, numbers] = parts[..] else { panic!("{row}") };
-    let sheet = if sheet.contains(':') { good(sheet) } else { titled(&format!("{sheet}:")).sheet };
-    let [minute, cells, first] = three_numbers(numbers).unwrap_or_else(|| panic!("{row}"));
-    let entry = |text| {
-        three_numbers(text).map_or_else(|| panic!("{row}"), |[rule, first, end]| (rule as u8, word(first), word(end)))
+    let three_numbers = |field| rows::numbers(field).unwrap_or_else(|| panic!("{row}"));
+    let [minute, cells, first] = three_numbers(numbers);
+    let entry = |field| {
+        let [rule, first, end] = three_numbers(field);
+        (rule as u8, word(first), word(end))
     };
     let entries: Vec<Entry> = entries.split(',').filter(|entry| !entry.is_empty()).map(entry).collect();
     let call = line.split(' ').next().and_then(|call| call.parse().ok()).expect(row);
-    hand::case(line, call, sheet, minute, word(cells), word(first)).beside(&calendar(&entries))
-}
-
-fn word(number: u32) -> u16 {
-    number.try_into().expect("a number below 65536")
-}
-
-fn three_numbers(text: &str) -> Option<[u32; 3]> {
-    text.split_whitespace().map(|number| number.parse().ok()).collect::<Option<Vec<_>>>()?.try_into().ok()
+    hand::case(line, call, rows::sheet(sheet), minute, word(cells), word(first)).beside(&calendar(&entries))
 }
 
 /// The list at a minute, its line by hand.
@@ -272,7 +265,6 @@ fn sixty_four_rules() -> Vec<Case> {
 fn masks() -> Vec<Case> {
     let (title, hours) = ("masks", calendar(&[(1, 100, 200)]));
     let list = list_at(title, &kiln(), &hours, 150, 5, "0 1 0 1 1 0 0 : 0 1 1 1 ..");
-    let mut cases = vec![list, changes(title, &kiln(), &hours, 3, &[100, 200])];
-    cases.iter_mut().for_each(|case| case.request.masks = [65_535, 1]);
-    cases
+    let changes = changes(title, &kiln(), &hours, 3, &[100, 200]);
+    [list, changes].map(|case| case.under([65_535, 1])).to_vec()
 }

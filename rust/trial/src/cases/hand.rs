@@ -1,5 +1,6 @@
 //! Requests of the calls of document 01, each line written by hand.
 
+use super::rows::rows;
 use super::sheets::{put, GOOD};
 use super::Case;
 use crate::known::{kiln, titled};
@@ -42,18 +43,20 @@ fn answered(row: &str) -> Case {
     case(line, call, sheet, argument.parse().expect(row), word(cells), word(first))
 }
 
-/// The lines of the kiln sheet with masks and a companion, which these calls don't take.
+/// Lines of the kiln sheet, call by call, with a companion, which these calls don't take, and with day masks.
+fn with_companions(lines: [&str; 5], masks: [u16; 2]) -> Vec<Case> {
+    let companions = [1, 2, 100, 3_000, MOST_COMPANION].map(|length| vec![4; length]);
+    let cases = (0..).zip(lines).map(|(call, line)| case(line, call, kiln(), 0, 1, 5));
+    cases.zip(companions).map(|(case, companion)| case.beside(&companion).under(masks)).collect()
+}
+
+/// What is passed over, by the check the masks too; the other calls refuse these masks with 13.
 fn passed_over() -> Vec<Case> {
     let lines = ["0 0 2 2 1 : 5", "1 0 2 1 1 1 : 5", "2 0 1 : 1", "3 9 1 : 5", "4 0 0 : 5"];
-    let mut cases: Vec<Case> = (0..).zip(lines).map(|(call, line)| case(line, call, kiln(), 0, 1, 5)).collect();
-    for (length, case) in [1, 2, 100, 3_000, MOST_COMPANION].into_iter().zip(&mut cases) {
-        case.request.masks = [65_535, 1];
-        case.request.companion = vec![4; length];
-    }
-    cases
+    let refused = ["0 0 2 2 1 : 5", "1 13 0 : 5", "2 13 0 : 5", "3 13 0 : 5", "4 13 0 : 5"];
+    [with_companions(lines, [0, 0]), with_companions(refused, [65_535, 1])].concat()
 }
 
 pub fn cases() -> Vec<Case> {
-    let rows = ANSWERED.lines().filter(|row| !row.starts_with('#'));
-    rows.map(answered).chain(refused()).chain(passed_over()).collect()
+    rows(ANSWERED).map(answered).chain(refused()).chain(passed_over()).collect()
 }

@@ -2,20 +2,26 @@
 
 use super::{spaced, Case};
 use crate::request::LIST;
-use crate::solver::calls::open;
+use crate::solver::calls::open_under;
 
 pub struct Listed {
     title: String,
     sheet: Vec<u8>,
+    masks: [u16; 2],
     counts: Option<[u16; 6]>,
     views: Option<Vec<[u16; 4]>>,
 }
 
 pub fn listed(title: impl Into<String>, sheet: Vec<u8>) -> Listed {
-    Listed { title: title.into(), sheet, counts: None, views: None }
+    Listed { title: title.into(), sheet, masks: [0, 0], counts: None, views: None }
 }
 
 impl Listed {
+    /// Under day masks, in and out.
+    pub fn under(self, masks: [u16; 2]) -> Listed {
+        Listed { masks, ..self }
+    }
+
     /// The six counts are by hand.
     pub fn counted(self, counts: [u16; 6]) -> Listed {
         Listed { counts: Some(counts), ..self }
@@ -29,7 +35,7 @@ impl Listed {
     /// Buffers of so many cells.
     pub fn cells(&self, lengths: &[usize]) -> Vec<Case> {
         let case = |&cells: &usize| {
-            let case = Case::new(&self.title, LIST, &self.sheet, 0, cells);
+            let case = Case::new(&self.title, LIST, &self.sheet, 0, cells).under(self.masks);
             self.by_hand(cells).map_or(case.clone(), |by_hand| case.owing(&by_hand))
         };
         lengths.iter().map(case).collect()
@@ -56,7 +62,7 @@ impl Listed {
 
     /// How many cells the records fill.
     fn filled(&self) -> usize {
-        4 * open(&self.sheet).expect("an accepted sheet").listing().views.len()
+        4 * open_under(&self.sheet, self.masks).expect("an accepted sheet").listing().views.len()
     }
 
     /// A buffer with so many cells more than the records fill.

@@ -3,12 +3,15 @@
 
 mod calendar;
 mod check;
+mod days;
 pub mod guesses;
 mod hand;
 mod hours;
 mod listed;
 mod lists;
+mod masks;
 mod queries;
+mod rows;
 pub mod sheets;
 pub mod small;
 pub mod twelve;
@@ -80,6 +83,12 @@ impl Case {
         self
     }
 
+    /// Under day masks, in and out.
+    fn under(mut self, masks: [u16; 2]) -> Case {
+        self.request.masks = masks;
+        self
+    }
+
     /// With what follows the call in its line by hand.
     fn owing(self, by_hand: &str) -> Case {
         Case { by_hand: Some(format!("{} {by_hand}", self.request.call)), ..self }
@@ -88,7 +97,8 @@ impl Case {
     /// The line of the second solver, which opened the sheet; an error where the line by hand is another.
     fn owed(self, opened: &Result<Opened, Refusal>) -> Result<Owed, String> {
         let Case { title, request, by_hand } = self;
-        let title = format!("{title}: call {}, argument {}, {} cells", request.call, request.argument, request.cells);
+        let Request { call, argument, masks, cells, .. } = request;
+        let title = format!("{title}: call {call}, argument {argument}, masks {masks:?}, {cells} cells");
         let line = request.line_on(opened).to_string();
         match by_hand {
             Some(by_hand) if !agrees(&by_hand, &request, &line) => {
@@ -102,7 +112,7 @@ impl Case {
 
 /// Every case, some requests more than once.
 fn all() -> impl Iterator<Item = Case> {
-    let parts: [fn() -> Vec<Case>; 9] = [
+    let parts: [fn() -> Vec<Case>; 11] = [
         hand::cases,
         check::cases,
         small::cases,
@@ -112,6 +122,8 @@ fn all() -> impl Iterator<Item = Case> {
         twelve::cases,
         calendar::cases,
         hours::cases,
+        masks::cases,
+        days::cases,
     ];
     parts.into_iter().flat_map(|part| part())
 }
@@ -128,10 +140,11 @@ fn ending() -> Owed {
 pub fn owed() -> Result<Vec<Owed>, String> {
     let mut found: Vec<Owed> = Vec::new();
     let mut requests = HashSet::new();
-    let mut last = (vec![], open(&[]));
+    let mut last = ((vec![], None), open(&[]));
     for case in all() {
-        if case.request.sheet != last.0 {
-            last = (case.request.sheet.clone(), open(&case.request.sheet));
+        let read = (case.request.sheet.clone(), case.request.day());
+        if read != last.0 {
+            last = (read, case.request.opened());
         }
         let owed = case.owed(&last.1)?;
         if requests.insert(owed.request.clone()) {

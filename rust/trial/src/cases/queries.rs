@@ -7,6 +7,14 @@ use crate::text::good;
 /// The answers, by the numbers that stand for them.
 const ANSWERS: [&str; 4] = ["yes", "no", "open", "none"];
 
+/// What follows the call in the line of an answer; of none, where the sheet has no such atom, refusal 10.
+pub fn owed(answer: Option<&str>) -> String {
+    match answer {
+        Some(answer) => format!("0 {} : ..", ANSWERS.iter().position(|&name| name == answer).expect(answer)),
+        None => "10 0 : ..".to_string(),
+    }
+}
+
 /// A sheet with its six counts, and the answers for its atoms in turn. Sheets without a world view: no guess is tested;
 /// those tested have no set, find another, or the one and the other; atoms that are facts, or in no head. Sheets with
 /// one or two: "yes", "no" and "open" beside each other.
@@ -23,11 +31,7 @@ const QUERIED: [(&str, [u16; 6], &str); 8] = [
 
 /// An atom's answer, or refusal 10 where the sheet has no such atom.
 fn case(text: &str, atom: usize, answer: Option<&str>) -> Case {
-    let line = match answer {
-        Some(answer) => format!("0 {} : ..", ANSWERS.iter().position(|&name| name == answer).expect(answer)),
-        None => "10 0 : ..".to_string(),
-    };
-    Case::new(text, QUERY, &good(text), atom as u32, 2).owing(&line)
+    Case::new(text, QUERY, &good(text), atom as u32, 2).owing(&owed(answer))
 }
 
 pub fn cases() -> Vec<Case> {

@@ -1,11 +1,12 @@
-//! The calls of document 01 and of K1 and K5 of document 02, with their refusals and what they leave in lent buffers.
+//! The calls of document 01 and of K1, K3 and K5 of document 02, with their refusals and what they leave in lent
+//! buffers.
 
 use super::calendar::{self, Calendar, WEEK};
 use super::guess::Guess;
 use super::listing::{Listing, Program, Verdict};
 use super::refusal::Refusal;
 use super::sheet::read;
-use super::{has, Set};
+use super::{has, meet, Set};
 use std::cell::OnceCell;
 
 /// The answer to a query.
@@ -17,7 +18,7 @@ pub enum Answer {
     None,
 }
 
-/// A sheet that passed the checks 1 to 7. Its listing is computed at most once.
+/// A sheet that passed the checks 1 to 7, and the constraints of the day. Its listing is computed at most once.
 #[derive(Debug)]
 pub struct Opened {
     pub names: Vec<Vec<u8>>,
@@ -25,7 +26,7 @@ pub struct Opened {
     listing: OnceCell<Listing>,
 }
 
-/// Opens a sheet, or gives its refusal of 1 to 7.
+/// Opens a sheet, with no constraints of the day, or gives its refusal of 1 to 7.
 pub fn open(bytes: &[u8]) -> Result<Opened, Refusal> {
     let sheet = read(bytes)?;
     let program = Program::of(&sheet);
@@ -35,7 +36,21 @@ pub fn open(bytes: &[u8]) -> Result<Opened, Refusal> {
     Ok(Opened { names: sheet.names, program, listing: OnceCell::new() })
 }
 
+/// The same under day masks, in and out; refusal 13 too.
+pub fn open_under(bytes: &[u8], masks: [Set; 2]) -> Result<Opened, Refusal> {
+    open(bytes)?.under(masks)
+}
+
 impl Opened {
+    /// "13, place 0, for a mask bit at or above the atom count or an atom in both masks".
+    fn under(self, masks: [Set; 2]) -> Result<Opened, Refusal> {
+        let [in_atoms, out_atoms] = masks;
+        if (in_atoms | out_atoms) >> self.names.len() != 0 || meet(in_atoms, out_atoms) {
+            return Err(Refusal::new(13, 0));
+        }
+        Ok(Opened { names: self.names, program: self.program.under(masks), listing: OnceCell::new() })
+    }
+
     /// The check: the numbers of atoms, of rules and of negations.
     pub fn check(&self) -> [usize; 3] {
         [self.names.len(), self.program.rules.len(), self.program.negations.len()]

@@ -24,6 +24,13 @@ pub struct Objective {
     pub not_not: Set,
 }
 
+/// The constraints of day masks, in and out: "for each in-atom a constraint "← not a", for each out-atom "← a"".
+pub fn constraints([in_atoms, out_atoms]: [Set; 2]) -> Vec<Objective> {
+    let not = members(in_atoms).map(|atom| Objective { not: 1 << atom, ..Objective::default() });
+    let plain = members(out_atoms).map(|atom| Objective { plain: 1 << atom, ..Objective::default() });
+    not.chain(plain).collect()
+}
+
 /// The negations of the rules, by number: atom by atom, "not K a" before "M a".
 pub fn negations(rules: &[Rule]) -> Vec<Negation> {
     let occurs = |atom: usize, masks: [usize; 2]| rules.iter().any(|rule| masks.iter().any(|&m| has(rule[m], atom)));

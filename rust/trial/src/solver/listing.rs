@@ -1,18 +1,19 @@
 //! The verdict on a guess, the world views of a sheet and the six counts.
 
-use super::guess::{guess_of, negations, reduct, Guess, Negation};
+use super::guess::{constraints, guess_of, negations, reduct, Guess, Negation, Objective};
 use super::ruling::is_contradicted;
 use super::sheet::{Rule, Sheet};
 use super::stable::stable_sets;
 use super::{has, within, Set};
 use std::cmp::Ordering;
 
-/// The rules of a sheet with their epistemic negations.
+/// The rules of a sheet with their epistemic negations, and the constraints of the day.
 #[derive(Clone, Debug)]
 pub struct Program {
     pub atoms: usize,
     pub rules: Vec<Rule>,
     pub negations: Vec<Negation>,
+    constraints: Vec<Objective>,
 }
 
 /// The verdict on a guess.
@@ -53,12 +54,24 @@ impl Program {
 
     /// Rules over so many atoms; the negations are numbered from these.
     pub fn new(atoms: usize, rules: Vec<Rule>) -> Self {
-        Program { atoms, negations: negations(&rules), rules }
+        Program { atoms, negations: negations(&rules), rules, constraints: vec![] }
     }
 
-    /// W: the stable sets of the reduct.
+    /// The same rules under day masks, in and out.
+    pub fn under(self, masks: [Set; 2]) -> Self {
+        Program { constraints: constraints(masks), ..self }
+    }
+
+    /// The program of a guess: the reduct of the rules, and the constraints as further rules.
+    pub fn program_of(&self, guess: Guess) -> Vec<Objective> {
+        let mut rules = reduct(&self.rules, &self.negations, guess);
+        rules.extend(&self.constraints);
+        rules
+    }
+
+    /// W: the stable sets of the program of a guess.
     pub fn belief_sets(&self, guess: Guess) -> Vec<Set> {
-        stable_sets(&reduct(&self.rules, &self.negations, guess), self.atoms)
+        stable_sets(&self.program_of(guess), self.atoms)
     }
 
     pub fn verdict(&self, guess: Guess) -> Verdict {
@@ -83,9 +96,8 @@ impl Program {
         }
     }
 
-    fn is_contradicted(&self, guess: Guess) -> bool {
-        let rules = reduct(&self.rules, &self.negations, guess);
-        is_contradicted(&rules, self.atoms, &self.negations, guess)
+    pub fn is_contradicted(&self, guess: Guess) -> bool {
+        is_contradicted(&self.program_of(guess), self.atoms, &self.negations, guess)
     }
 
     /// The listing, by judging every guess; at most 15 negations.

@@ -53,7 +53,7 @@ pub fn closure(rules: &[Objective], atoms: usize) -> Closure {
     }
 }
 
-/// Whether a guess is contradicted; `rules` are its reduct.
+/// Whether a guess is contradicted; `rules` are its program.
 pub fn is_contradicted(rules: &[Objective], atoms: usize, negations: &[Negation], guess: Guess) -> bool {
     let closed = closure(rules, atoms);
     let negation_fails = |(j, negation): (usize, &Negation)| match (*negation, guess >> j & 1 == 1) {

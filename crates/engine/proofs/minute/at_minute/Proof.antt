@@ -65,7 +65,7 @@ returns-2 c =
     let o = c .outline-of in (
       w .ensures .0,
       minute-reads (a .sheet .now) (a .calendar .now) _ (r .result) (r .ensures .1) (c .before .before .before .before .before .before .before .before .before .before .x .given .1) (a .minute) _ _ (w .result) (c .before .before .before .before .before .before .in-force .ensures) (w .ensures .1) (omega (arith, w .ensures .0, start .pre))
-          (omega (arith, c .before .before .before .before .before .before .before .before .if1 .left)) (o .result) (o .ensures .0 .0) (o .ensures .0 .1) (o .ensures .1),
+          (omega (arith, c .before .before .before .before .before .before .before .before .if1 .left)) (o .result) (o .ensures .0) (o .ensures .1),
     )
 
 returns-3 : tie.Need-returns-3

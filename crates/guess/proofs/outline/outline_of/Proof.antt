@@ -44,7 +44,7 @@ returns : tie.Need-returns
 returns c =
     let p = c .before .before .before .before .before .pre in
     let many = counted c in (
-      (refl, refl),
+      (refl, refl, refl, refl),
       record {
         few-atoms = p .few-atoms;
         few-rules = p .few-rules;

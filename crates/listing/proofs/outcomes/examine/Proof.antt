@@ -1,6 +1,7 @@
 -- `listing::outcomes::examine` meets its contract. Assumes nothing.
 use mathlib.Core.Path.{sym, _∙_}
 use native.Mathlib.Omega.{arith}
+use Rattle.semantics.specs.Words.{programIn}
 use Rattle.guess.specs.Numbered.{few-of, few-sets}
 use Rattle.listing.proofs.Examined.{guess-below, ruled-as, judged-as, sets-fit}
 use borrow.Author.Needs.{needs}
@@ -44,7 +45,8 @@ enum-known-known c = search needs
 cast-t18 : tie.Need-cast-t18
 cast-t18 c =
     let start = c .before .before .before .before .before .before .before .before .before .before .before .before in
-    let few = sets-fit (start .args .x) (start .args .guess) _ (c .before .before .before .judge .ensures) (c .before .known .given .1) in
+    let reduct = c .before .before .before .before .before .before .before .before .before .reduct in
+    let few = sets-fit (start .args .x) (start .args .guess) (programIn (reduct .last .1 .1 .1 .0) (reduct .result)) (c .before .before .before .judge .ensures) (c .before .known .given .1) in
     omega (arith, few, few-sets (start .pre .0))
 
 returns-2 : tie.Need-returns-2

@@ -1,6 +1,7 @@
 -- `verdict::pass::gather` meets its contract. Assumes nothing.
 use Prim.Native.Nat.{ℕ, _-_, _^_, _≤_}
 use mathlib.Core.Path.{_≡_, refl, sym, ap, _∙_}
+use mathlib.Core.List.{_++_}
 use mathlib.Core.Logic.{⊎-elim}
 use native.Mathlib.Omega.{arith}
 use lib.ListN.{length}
@@ -8,7 +9,9 @@ use Rattle.sets.specs.Lists.{upTo}
 use Rattle.semantics.specs.Words.{programIn}
 use Rattle.semantics.specs.Definitions.Stable.{stableSets}
 use Rattle.semantics.specs.Definitions.Pass.{having, passOver, onePass}
+use Rattle.semantics.specs.Definitions.Day.{dayConstraints}
 use Rattle.semantics.specs.Theorems.Pass.{one-pass}
+use Rattle.semantics.specs.Theorems.Day.{stable-under}
 use Rattle.stable.specs.Tested.{passes}
 use Rattle.verdict.specs.Over.{over-long}
 use Rattle.verdict.proofs.Passing.{writtenTo, gathered-none, written-none, gathers, writes, passes-over}
@@ -21,12 +24,12 @@ same : {known known′ possible possible′ sets sets′ tests tests′ : ℕ} �
 same d e f g i = having (d i) (e i) (f i) (g i)
 
 abbrev Inv-loop : tie.InvT-loop
-Inv-loop program rules atoms out₀ end room₀ known₀ possible₀ sets₀ tests₀ first₀ i₀ out room known possible sets tests first i =
-    let p = programIn program rules in
+Inv-loop program rules atoms ins outs out₀ end room₀ known₀ possible₀ sets₀ tests₀ first₀ i₀ out room known possible sets tests first i =
+    let p = programIn program rules ++ dayConstraints ins outs in
     (tests ≡ i) × (i ≤ end) × (sets ≤ i) × (having known possible sets tests ≡ passOver atoms p (upTo i)) × (out ≡ writtenTo p i out₀) × (length room ≡ 128)
 
 abbrev μ-loop : tie.MeasureT-loop
-μ-loop program rules atoms out₀ end room₀ known₀ possible₀ sets₀ tests₀ first₀ i₀ out room known possible sets tests first i = end - i
+μ-loop program rules atoms ins outs out₀ end room₀ known₀ possible₀ sets₀ tests₀ first₀ i₀ out room known possible sets tests first i = end - i
 
 cast-power : tie.Need-cast-power Inv-loop μ-loop
 cast-power c = search needs
@@ -43,7 +46,7 @@ full-requires c κs = search needs
 loop-holds : tie.Need-loop-holds Inv-loop μ-loop
 loop-holds c =
     let a = c .before .before .before .before .args in
-    let p = programIn (a .program .now) (a .rules) in
+    let p = programIn (a .program .now) (a .rules) ++ dayConstraints (a .ins) (a .outs) in
     (omega arith, omega arith, omega arith, gathered-none (a .atoms) p (c .full .ensures), written-none (a .atoms) p (a .out .now), search needs)
 
 slice-aggregate-test-set : tie.Need-slice-aggregate-test-set Inv-loop μ-loop
@@ -78,11 +81,11 @@ loop-again c =
     let l = c .before .before .before .before .before .loop in
     let a = c .before .before .before .before .before .before .before .before .before .before .args in
     let t = c .before .before .test-set in
-    let p = programIn (a .program .now) (a .rules) in
+    let p = programIn (a .program .now) (a .rules) ++ dayConstraints (a .ins) (a .outs) in
     let room = t .ensures .0 ∙ l .inv .5 in
     ⊎-elim
     (λ w.
-    let told = sym (ap passes (w .1 .given .1)) ∙ t .ensures .1 in (
+    let told = sym (ap passes (w .1 .given .1)) ∙ t .ensures .1 ∙ sym (stable-under (a .ins) (a .outs) (programIn (a .program .now) (a .rules)) (l .i)) in (
       omega arith,
       omega arith,
       omega arith,
@@ -91,7 +94,7 @@ loop-again c =
       room,
     ))
     (λ w.
-    let told = sym (ap passes (w .1 .given .1)) ∙ t .ensures .1 in (
+    let told = sym (ap passes (w .1 .given .1)) ∙ t .ensures .1 ∙ sym (stable-under (a .ins) (a .outs) (programIn (a .program .now) (a .rules)) (l .i)) in (
       omega arith,
       omega arith,
       omega arith,
@@ -109,7 +112,7 @@ unfolding onePass stableSets
 returns c =
     let l = c .before .loop in
     let a = c .before .before .before .before .before .before .args in
-    let p = programIn (a .program .now) (a .rules) in
+    let p = programIn (a .program .now) (a .rules) ++ dayConstraints (a .ins) (a .outs) in
     let end : l .i ≡ 2 ^ a .atoms = omega (arith, c .before .before .before .power .ensures) in (
       l .inv .3 ∙ (ap (λ z. passOver (a .atoms) p (upTo z)) end ∙ one-pass (a .atoms) p),
       l .inv .4 ∙ ap (λ z. writtenTo p z (a .out .now)) end,
