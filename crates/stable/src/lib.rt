@@ -134,8 +134,8 @@ fn smaller_model(positive: &[u16], rules: usize, i: u16) -> bool
     found
 }
 
-// Is i a stable set of the program that has every in-atom and no out-atom? What `first` stands for is asked before all else: a rule, or the
-// masks under the number after the last rule's. The words lent are room for the rules whose bodies hold in i.
+// Is i a stable set of the program that has every in-atom and no out-atom? What `first` stands for is asked before all else: a rule by its
+// number, the masks by any other number. The words lent are room for the rules whose bodies hold in i.
 pub fn test_set(
     program: &[u16],
     rules: usize,

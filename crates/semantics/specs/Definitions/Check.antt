@@ -27,7 +27,7 @@ opened s =
 abbrev pub said : {A : Type 0} → (Sheet → A) → List ℕ → Returned A
 said of s = answer of (read (opened s))
 
--- The source that a sheet is: its setting, or its refusal. The calls of document 01 but the check are said of it.
+-- The source that a sheet is: its setting, or its refusal. The calls of document 01 but the check are said of it; document 02 adds masks.
 unfoldable pub ofSheet : List ℕ → Returned Setting
 ofSheet = said setting
 

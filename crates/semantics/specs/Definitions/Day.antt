@@ -51,7 +51,7 @@ masksFit ins outs atoms = ltb ins (2 ^ atoms) && ltb outs (2 ^ atoms) && not (in
 unfoldable pub underMasks : (from : Returned Setting) (ins outs : ℕ) → Returned Setting
 underMasks from ins outs = answer (under ins outs) (provided (λ s. masksFit ins outs (s .atoms)) 13 0 from)
 
--- "Verdict, sets, ruling out, listing (desk call too) and query all take the masks": their calls (Calls.antt, Desk.antt) are said of this
--- source
+-- "Verdict, sets, ruling out, listing (desk call too) and query all take the masks (K1's calls don't)": the calls (Calls.antt, Desk.antt) are
+-- said of this source, and ruling out of its setting
 abbrev pub ofDay : (sheet : List ℕ) (ins outs : ℕ) → Returned Setting
 ofDay sheet ins outs = underMasks (ofSheet sheet) ins outs

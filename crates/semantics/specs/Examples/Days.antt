@@ -196,7 +196,7 @@ dayListings =
     ∷ (chosen, 1, 0, 0, accepted (result (tallied 0 0 0 1 1 0) []))
     ∷ (forced, 0, 1, 0, accepted (result (tallied 0 0 0 1 1 0) []))
     -- three views, and the in-atom b: 13, with {b}, stays and covers its seven proper subsets. Of the other eight, all with "not K b", 3 and 10,
-    -- whose facts are c and a, have b in F; 7, 11, 14 and 15 are ruled as before; 2 and 6 are no longer covered, T and F are ∅, and no set has b
+    -- whose facts are c and a, have b in F; 7, 11, 14 and 15 are ruled as before; 2, no longer covered, and 6 are tested: T and F are ∅, and no set has b
     ∷ (three, 2, 0, 4, accepted (result (tallied 1 7 6 3 2 0) (view 13 2 2 1 ∷ [])))
     -- 9 with the number of views under the masks; 13 before it, and the sheet before both
     ∷ (sheet-6 .bytes, 1, 0, 3, refusal 9 1)

@@ -75,7 +75,7 @@ module _ (cs : List Rule) (empty : Constraints cs) where
 
   -- ---- T and F
   module _ (n : ℕ) (p : List Rule) where
-    -- "an empty head enters nothing into T and keeps nothing out of F"
+    -- an empty head enters nothing into T and keeps nothing out of F
     closed-added : {x : Pair} → Closed n (p ++ cs) x ↔ Closed n p x
     closed-added {x} = (
       λ c. record {

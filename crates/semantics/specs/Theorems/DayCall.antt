@@ -31,7 +31,7 @@ pub record DayDemand (sheet : List ℕ) (ins outs : ℕ) (Says : (from : Returne
   -- where rules and constraints are at most 64 together: what is said of the bytes of the sheet with the constraints written as rules
   pub as-written : (x : Sheet) (end : ℕ) → opened sheet ≡ field x end → MasksFit ins outs (atoms x) → length (x .rules) + length (dayConstraints ins outs) ≤ mostRules
       → Says (ofSheet (sheetBytes (x .names) (x .rules ++ writtenRules ins outs)))
-  -- "with both masks zero they give today's answers": those of document 01
+  -- "with both masks zero they give today's answers": those of the sheet alone
   pub both-zero : ins ≡ ∅ → outs ≡ ∅ → Says (ofSheet sheet)
 
 -- By what the call ensures, that a refusal of the source is the call's, and that 13 comes from there.

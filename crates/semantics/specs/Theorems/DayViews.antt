@@ -1,5 +1,5 @@
--- World views, listing and query under the day's masks, said by the masks: a guess's belief sets are those that have every in-atom and no
--- out-atom, and all else is as before. Assumes nothing.
+-- World views, records and query under the day's masks, said by the masks: a guess's belief sets are those of before that have every in-atom
+-- and no out-atom, and from these the rest is found as before. (What is ruled out: `contradicted-under` of Day.antt.) Assumes nothing.
 use Prim.Native.Nat.{ℕ, _^_, _<_}
 use mathlib.Core.Path.{_≡_, sym, ap, _∙_}
 use mathlib.Core.Logic.{_↔_}
@@ -42,7 +42,7 @@ module _ (ins outs : ℕ) (s : Setting) where
     λ w. record { verifiable = verifiable-under g .1 (w .verifiable); maximal = λ h l p v. w .maximal h l p (verifiable-under h .0 v) },
   )
 
-  -- ---- the listing: one record for each of them and no other
+  -- ---- the listing: which views it has (that each stands there once and in the order holds of every setting: Listing.antt)
   -- what is known and possible in those belief sets, and how many they are
   abbrev pub viewUnder : ℕ → View
   viewUnder g =
@@ -62,7 +62,7 @@ module _ (ins outs : ℕ) (s : Setting) where
   abbrev pub SomeViewUnder : Type 0
   SomeViewUnder = (g : ℕ) × (g < 2 ^ k s) × WorldViewUnder g
 
-  -- P of every belief set of every world view that has every in-atom and no out-atom
+  -- P of every belief set, with every in-atom and no out-atom, of every world view
   abbrev pub InAllUnder : (ℕ → Type 0) → Type 0
   InAllUnder P = (g : ℕ) → g < 2 ^ k s → WorldViewUnder g → (i : ℕ) → i among beliefSets s g → Allowed ins outs i → P i
 
