@@ -1,8 +1,8 @@
 // Requests of the calls sold, from standard input until it ends, and a line for each. All numbers have the low byte first.
 //
 // A request: one byte, the call; two bytes, the sheet's length, at most 2,048, and the sheet; four bytes, the argument; two and two bytes, the
-// day masks, in and out; two bytes, the companion's length, at most 12,288, and the companion; two bytes, the number of cells lent, at most 33,000; two
-// bytes, f. Before the call, cell i holds (f + i) mod 65,536. What a call does not take is passed over.
+// day masks, in and out; two bytes, the companion's length, at most 12,288, and the companion; two bytes, the number of cells lent, at most
+// 33,000; two bytes, f. Before the call, cell i holds (f + i) mod 65,536. What a call does not take is passed over.
 //
 // Its line: the call; the refusal's number and place, or 0 and the values; a colon; the cells after the call.
 //

@@ -17,7 +17,9 @@ use Rattle.engine.proofs.belief_sets.Tie as tie
 read : (c : tie.After-for-guess) →
     let a = c .before .before .before .before .before .before .args in
     Reads (forGuess (ofDay (a .sheet .now) (a .ins) (a .outs)) (a .guess)) (c .for-guess .result) (c .before .before .of-day .last .1 .1 .1 .0)
-read c = c .for-guess .ensures (ofDay (c .before .before .before .before .before .before .args .sheet .now) (c .before .before .before .before .before .before .args .ins) (c .before .before .before .before .before .before .args .outs)) _ (c .before .before .of-day .ensures .1)
+read c =
+    let a = c .before .before .before .before .before .before .args in
+    c .for-guess .ensures (ofDay (a .sheet .now) (a .ins) (a .outs)) _ (c .before .before .of-day .ensures .1)
 
 slice-aggregate-of-day : tie.Need-slice-aggregate-of-day
 slice-aggregate-of-day c = search needs
@@ -26,7 +28,9 @@ of-day-requires : tie.Need-of-day-requires
 of-day-requires c κs = search needs
 
 for-guess-requires : tie.Need-for-guess-requires
-for-guess-requires c κs = within (ofDay (c .before .before .before .before .before .args .sheet .now) (c .before .before .before .before .before .args .ins) (c .before .before .before .before .before .args .outs)) _ (c .before .of-day .result) (c .before .of-day .ensures .1)
+for-guess-requires c κs =
+    let a = c .before .before .before .before .before .args in
+    within (ofDay (a .sheet .now) (a .ins) (a .outs)) _ (c .before .of-day .result) (c .before .of-day .ensures .1)
 
 enum-known-x : tie.Need-enum-known-x
 enum-known-x c = search needs

@@ -15,7 +15,9 @@ slice-aggregate-list-from : tie.Need-slice-aggregate-list-from
 slice-aggregate-list-from c = search needs
 
 list-from-requires : tie.Need-list-from-requires
-list-from-requires c κs = outlined-so (ofDay (c .before .before .before .before .before .before .before .args .sheet .now) (c .before .before .before .before .before .before .before .args .ins) (c .before .before .before .before .before .before .before .args .outs)) _ (c .before .before .before .of-day .result) (c .before .before .before .of-day .ensures .1)
+list-from-requires c κs =
+    let a = c .before .before .before .before .before .before .before .args in
+    outlined-so (ofDay (a .sheet .now) (a .ins) (a .outs)) _ (c .before .before .before .of-day .result) (c .before .before .before .of-day .ensures .1)
 
 same-length : tie.Need-same-length
 same-length c = search needs

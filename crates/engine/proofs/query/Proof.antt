@@ -17,7 +17,9 @@ use Rattle.engine.proofs.query.Tie as tie
 read : (c : tie.After-for-atom) →
     let a = c .before .before .before .before .before .args in
     Reads (forAtom (ofDay (a .sheet .now) (a .ins) (a .outs)) (a .atom)) (c .for-atom .result) (c .before .before .of-day .last .1 .1 .1 .0)
-read c = c .for-atom .ensures (ofDay (c .before .before .before .before .before .args .sheet .now) (c .before .before .before .before .before .args .ins) (c .before .before .before .before .before .args .outs)) _ (c .before .before .of-day .ensures .1)
+read c =
+    let a = c .before .before .before .before .before .args in
+    c .for-atom .ensures (ofDay (a .sheet .now) (a .ins) (a .outs)) _ (c .before .before .of-day .ensures .1)
 
 slice-aggregate-of-day : tie.Need-slice-aggregate-of-day
 slice-aggregate-of-day c = search needs

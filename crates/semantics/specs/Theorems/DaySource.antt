@@ -6,7 +6,7 @@ use mathlib.Core.List.{List}
 use mathlib.Core.Logic.{_↔_, _⊎_, inl, inr, ⊎-elim}
 use native.Mathlib.Omega.{arith}
 use Rattle.sets.specs.Decides.{Decides, decided, is-true, is-false, dec-iff, dec-and, dec-not, dec-lt}
-use Rattle.sets.specs.Sets.{_∈_, ∅}
+use Rattle.sets.specs.Sets.{_∈_, Meets, ∅}
 use Rattle.sets.specs.Members.{∈-∅, dec-meets, below-power}
 use Rattle.sets.specs.Size.{not-below-power}
 use Rattle.semantics.specs.Definitions.Setting.{Setting}
@@ -31,21 +31,22 @@ abbrev pub MasksBad : (ins outs n : ℕ) → Type 0
 MasksBad ins outs n = (((a : ℕ) × (a ∈ ins) × (n ≤ a)) ⊎ ((a : ℕ) × (a ∈ outs) × (n ≤ a))) ⊎ ((a : ℕ) × (a ∈ ins) × (a ∈ outs))
 
 module _ (ins outs n : ℕ) where
-  fit-or-bad : MasksFit ins outs n ⊎ MasksBad ins outs n
-  fit-or-bad =
-      ⊎-elim
-      (λ l. ⊎-elim
-      (λ m. ⊎-elim (λ q. inr (inr (q .common, q .left, q .right)))
-      (λ none. inl (record {
-        in-below = below-power n ins .0 l;
-        out-below = below-power n outs .0 m;
-        apart = λ a i o. none (record { common = a; left = i; right = o });
-      }))
-      (decided (dec-meets ins outs)))
-      (λ m. inr (inl (inr (not-below-power n outs .0 m))))
-      (decided (dec-lt outs (2 ^ n))))
-      (λ l. inr (inl (inl (not-below-power n ins .0 l))))
-      (decided (dec-lt ins (2 ^ n)))
+  -- by numbers, and by atoms
+  fits-by : ((ins < 2 ^ n) × (outs < 2 ^ n)) × (Meets ins outs → ⊥) ↔ MasksFit ins outs n
+  fits-by = (
+    λ ((l, m), none). record {
+      in-below = below-power n ins .0 l;
+      out-below = below-power n outs .0 m;
+      apart = λ a i o. none (record { common = a; left = i; right = o });
+    },
+    λ f. (
+      (below-power n ins .1 (f .in-below), below-power n outs .1 (f .out-below)),
+      λ q. f .apart (q .common) (q .left) (q .right),
+    ),
+  )
+
+  pub dec-fit : Decides (MasksFit ins outs n) (masksFit ins outs n)
+  dec-fit = dec-iff fits-by (dec-and (dec-and (dec-lt ins (2 ^ n)) (dec-lt outs (2 ^ n))) (dec-not (dec-meets ins outs)))
 
   pub not-bad : MasksFit ins outs n → MasksBad ins outs n → ⊥
   not-bad f (inl (inl (a, m, l))) = let h = f .in-below a m in omega arith
@@ -53,21 +54,12 @@ module _ (ins outs n : ℕ) where
   not-bad f (inr (a, i, o)) = f .apart a i o
 
   pub not-fit : (MasksFit ins outs n → ⊥) → MasksBad ins outs n
-  not-fit f = ⊎-elim (λ h. absurd (f h)) (λ b. b) fit-or-bad
-
-pub dec-fit : (ins outs n : ℕ) → Decides (MasksFit ins outs n) (masksFit ins outs n)
-dec-fit ins outs n =
-    dec-iff (
-      λ ((l, m), none). record {
-        in-below = below-power n ins .0 l;
-        out-below = below-power n outs .0 m;
-        apart = λ a i o. none (record { common = a; left = i; right = o });
-      },
-      λ f. (
-        (below-power n ins .1 (f .in-below), below-power n outs .1 (f .out-below)),
-        λ q. f .apart (q .common) (q .left) (q .right),
-      ),
-    ) (dec-and (dec-and (dec-lt ins (2 ^ n)) (dec-lt outs (2 ^ n))) (dec-not (dec-meets ins outs)))
+  not-fit f =
+      ⊎-elim
+      (λ l. ⊎-elim
+      (λ m. ⊎-elim (λ q. inr (q .common, q .left, q .right)) (λ none. absurd (f (fits-by .0 ((l, m), none)))) (decided (dec-meets ins outs)))
+      (λ m. inl (inr (not-below-power n outs .0 m))) (decided (dec-lt outs (2 ^ n))))
+      (λ l. inl (inl (not-below-power n ins .0 l))) (decided (dec-lt ins (2 ^ n)))
 
 -- ---- the source
 module _ (from : Returned Setting) (ins outs : ℕ) where
