@@ -20,3 +20,4 @@ pub mod Program
 pub mod Calendar
 pub mod Pass
 pub mod Day
+pub mod LeastModel

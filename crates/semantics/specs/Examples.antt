@@ -1,6 +1,6 @@
 -- Sheets whose lists are known, limit cases of the reading, the table of the reduct, verdicts and belief sets of guesses, what the listing, the
--- desk call and the query return, what `views` prints, calendars, what one pass gathers, and the answers under the day's masks, computed from
--- the bytes.
+-- desk call and the query return, what `views` prints, calendars, what one pass gathers, the answers under the day's masks, and least models,
+-- computed.
 pub mod Sheets
 pub mod Own
 pub mod Limits
@@ -14,4 +14,5 @@ pub mod Minutes
 pub mod Changed
 pub mod Passes
 pub mod Days
+pub mod LeastModels
 pub mod Computed

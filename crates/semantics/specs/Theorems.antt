@@ -57,3 +57,5 @@ pub mod DaySource
 pub mod DayViews
 pub mod DayRules
 pub mod DayCall
+pub mod LeastModel
+pub mod SingleHeads

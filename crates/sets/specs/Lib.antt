@@ -6,3 +6,4 @@ pub mod Counting
 pub mod Sets
 pub mod Members
 pub mod Size
+pub mod One

@@ -138,6 +138,18 @@ pub ⊂-⊆-trans : {x y z : ℕ} → x ⊂ y → y ⊆ z → x ⊂ z
 pub ∩-⊆ : (x y : ℕ) → x ∩ y ⊆ y
 ∩-⊆ x y = record { into = λ {a} m. ∈-∩ a x y .0 m .1 }
 
+pub ∩-⊆-left : (x y : ℕ) → x ∩ y ⊆ x
+∩-⊆-left x y = record { into = λ {a} m. ∈-∩ a x y .0 m .0 }
+
+pub ∖-⊆ : (x y : ℕ) → x ∖ y ⊆ x
+∖-⊆ x y = record { into = λ {a} m. ∈-∖ a x y .0 m .0 }
+
+pub ⊆-∪-left : (x y : ℕ) → x ⊆ x ∪ y
+⊆-∪-left x y = record { into = λ {a} m. ∈-∪ a x y .1 (inl m) }
+
+pub ⊆-∪-right : (x y : ℕ) → y ⊆ x ∪ y
+⊆-∪-right x y = record { into = λ {a} m. ∈-∪ a x y .1 (inr m) }
+
 -- the subsets of y by falling number: below s, a subset, the next is (s - 1) ∩ y
 next-subset : (s y t : ℕ) → s ∩ y ≡ s → t ∩ y ≡ t → t < s → t ≤ (s - 1) ∩ y
 next-subset = bin-ind (λ s. (y t : ℕ) → s ∩ y ≡ s → t ∩ y ≡ t → t < s → t ≤ (s - 1) ∩ y) (λ y t p q l. absurd (omega arith)) step
@@ -179,15 +191,6 @@ module _ (x y z : ℕ) where
   ∪-⊆ = (
     λ s. (record { into = λ {a} m. s .into (∈-∪ a x y .1 (inl m)) }, record { into = λ {a} m. s .into (∈-∪ a x y .1 (inr m)) }),
     λ p. record { into = λ {a} m. ⊎-elim (p .0 .into) (p .1 .into) (∈-∪ a x y .0 m) },
-  )
-
-  pub ∪-meets : Meets (x ∪ y) z ↔ (Meets x z ⊎ Meets y z)
-  ∪-meets = (
-    λ m. ⊎-elim (λ l. inl (record { common = m .common; left = l; right = m .right })) (λ l. inr (record { common = m .common; left = l; right = m .right }))
-        (∈-∪ (m .common) x y .0 (m .left)),
-    ⊎-elim
-        (λ m. record { common = m .common; left = ∈-∪ (m .common) x y .1 (inl (m .left)); right = m .right })
-        (λ m. record { common = m .common; left = ∈-∪ (m .common) x y .1 (inr (m .left)); right = m .right }),
   )
 
 -- ---- a set that has every member of x and lacks every member of y

@@ -6,6 +6,7 @@ ghost use mathlib.Core.Path.{_≡_};
 ghost use mathlib.Core.Bool.{not, _&&_, cond};
 ghost use Prim.Native.Nat.{_^_, _<_};
 ghost use Rattle.sets.specs.Sets.{_∈?_, _⊆?_, _meets?_, _∪_, _∖_, ∅, full as fullOf, single, size as sizeOf};
+ghost use Rattle.sets.specs.One.{OneOf};
 
 // Is a in the set x?
 pub fn member(a: u16, x: u16) -> bool
@@ -59,6 +60,20 @@ pub fn size(x: u16) -> u32
     ensures { λ r. ⌜ r ≡ sizeOf x ⌝ }
 {
     u16::count_ones(x)
+}
+
+// The highest member of x alone; what is promised is that it is one of them.
+pub fn highest(x: u16) -> u16
+    requires { ⌜ 0 < x ⌝ }
+    ensures { λ r. ⌜ OneOf x r ⌝ }
+{
+    let mut m = x;
+    let mut rest = x & (x - 1);
+    while rest != 0 {
+        m = rest;
+        rest = m & (m - 1);
+    }
+    m
 }
 
 // 2 to the power of k: the number of sets of the numbers below k, and the set of k alone.

@@ -1,4 +1,5 @@
 -- The definitions, and the walk, computed on the bytes of the known sheets. Assumes nothing.
+use Prim.Native.Nat.{_^_}
 use mathlib.Core.Path.{_≡_, refl}
 use mathlib.Core.List.{List, [], _∷_, _++_, map}
 use native.Mathlib.Decide.{ℕ-discrete}
@@ -10,7 +11,7 @@ use Rattle.semantics.specs.Definitions.Reading.{times}
 use Rattle.semantics.specs.Definitions.Sheet.{longestSheet, countAt, nameByteAt, nameAt, maskAt, ruleAt, sections}
 use Rattle.semantics.specs.Definitions.Reduct.{reductRule, reduct}
 use Rattle.semantics.specs.Definitions.Setting.{Setting, k}
-use Rattle.semantics.specs.Definitions.Check.{opened, ofSheet, check}
+use Rattle.semantics.specs.Definitions.Check.{opened, said, ofSheet, check}
 use Rattle.semantics.specs.Definitions.Returned.{accepted, read, answer, afterwards}
 use Rattle.semantics.specs.Definitions.Stable.{reductAt, smallerModel, stable, stableSets}
 use Rattle.semantics.specs.Definitions.Verdict.{beliefSets, guessFound, verdict}
@@ -24,6 +25,7 @@ use Rattle.semantics.specs.Definitions.Program.{digits, namesOf, printed
 use Rattle.semantics.specs.Definitions.Calendar.{entryAt, calendarOf, openAt, inForce, ofMinute}
 use Rattle.semantics.specs.Definitions.Pass.{gathered, onePass}
 use Rattle.semantics.specs.Definitions.Day.{dayConstraints, underMasks, ofDay}
+use Rattle.semantics.specs.Definitions.LeastModel.{singleHeads, grown, leastModel, byLeastModel}
 use Rattle.semantics.specs.Walk.{walk}
 use Rattle.semantics.specs.Theorems.CalendarPlaces.{longestCalendar}
 use Rattle.semantics.specs.Examples.Sheets.{Listed, zeros, ten, kiln, sheet-6}
@@ -39,6 +41,7 @@ use Rattle.semantics.specs.Examples.Minutes.{minuteListings}
 use Rattle.semantics.specs.Examples.Changed.{Changed, changed, LongestChanged, longest-changed}
 use Rattle.semantics.specs.Examples.Passes.{passes}
 use Rattle.semantics.specs.Examples.Days.{dayVerdicts, daySets, dayContradicted, dayListings, dayDesk, dayQueries}
+use Rattle.semantics.specs.Examples.LeastModels.{chain, stages, leastModels, singles, leastBeliefs}
 
 -- the list of a setting by the definitions, and by the walk along the order
 abbrev listed : Setting → List View × Tally
@@ -94,9 +97,17 @@ pub record Computed : Type 0 where
   pub day-desk-returned : map (λ p. deskNumber (deskCall (ofDay (p .0) (p .1) (p .2)) (length (p .3)))) dayDesk ≡ map (λ p. p .4) dayDesk
   pub day-desk-written : map (λ p. afterwards deskBytes (deskCall (ofDay (p .0) (p .1) (p .2)) (length (p .3))) (p .3)) dayDesk ≡ map (λ p. p .5) dayDesk
   pub day-queries-answered : map (λ p. queryCall (ofDay (p .0) (p .1) (p .2)) (p .3)) dayQueries ≡ map (λ p. p .4) dayQueries
+  -- document 02, K6: what is grown, the sets that pass by it, and those that the search over subsets finds
+  pub chain-grows : map (grown chain) (upTo (length stages)) ≡ stages
+  pub least-models-are : map (λ p. map (λ i. leastModel (reductAt i (p .1))) (upTo (2 ^ p .0))) leastModels ≡ map (λ p. p .2) leastModels
+  pub sets-pass : map (λ p. keep (byLeastModel (p .1)) (upTo (2 ^ p .0))) leastModels ≡ map (λ p. p .3) leastModels
+  pub sets-stable : map (λ p. stableSets (p .0) (p .1)) leastModels ≡ map (λ p. p .4) leastModels
+  pub single-or-not : map (λ p. said singleHeads (p .0)) singles ≡ map (λ p. accepted (p .1)) singles
+  pub beliefs-pass : map (λ p. answer (λ s. keep (byLeastModel (s .program (p .3))) (upTo (2 ^ s .atoms))) (ofDay (p .0) (p .1) (p .2))) leastBeliefs ≡ map (λ p. accepted (p .4)) leastBeliefs
+  pub beliefs-stable : map (λ p. answer (λ s. beliefSets s (p .3)) (ofDay (p .0) (p .1) (p .2))) leastBeliefs ≡ map (λ p. accepted (p .4)) leastBeliefs
 
 pub computed : Computed
-unfolding ℕ-discrete ones onesIn every some keep flat upTo downFrom sameList setOf zeros times countAt nameByteAt nameAt maskAt ruleAt sections opened ofSheet check reductRule reduct reductAt smallerModel stable stableSets beliefSets guessFound verdict forGuess verdictCall beliefSetsCall steps contradicted order isWorldView covered tallyOf viewsAlong walk forAtom queryCall yesNoOpen answerBy digits namesOf printed entryAt calendarOf inForce ofMinute onePass membersOf dayConstraints underMasks
+unfolding ℕ-discrete ones onesIn every some keep flat upTo downFrom sameList setOf zeros times countAt nameByteAt nameAt maskAt ruleAt sections opened ofSheet check reductRule reduct reductAt smallerModel stable stableSets beliefSets guessFound verdict forGuess verdictCall beliefSetsCall steps contradicted order isWorldView covered tallyOf viewsAlong walk forAtom queryCall yesNoOpen answerBy digits namesOf printed entryAt calendarOf inForce ofMinute onePass membersOf dayConstraints underMasks grown byLeastModel
 computed = record {
   checks = refl;
   lists = refl;
@@ -128,4 +139,11 @@ computed = record {
   day-desk-returned = refl;
   day-desk-written = refl;
   day-queries-answered = refl;
+  chain-grows = refl;
+  least-models-are = refl;
+  sets-pass = refl;
+  sets-stable = refl;
+  single-or-not = refl;
+  beliefs-pass = refl;
+  beliefs-stable = refl;
 }

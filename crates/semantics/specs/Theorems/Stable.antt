@@ -1,6 +1,6 @@
 -- 002: the test `stable` decides whether a set is a model of the reduced program of which no proper subset is a model. Assumes nothing.
 use Prim.Native.Nat.{ℕ, _^_, _≤_, _<_}
-use mathlib.Core.Path.{refl, sym, subst}
+use mathlib.Core.Path.{_≡_, refl, sym, subst}
 use mathlib.Core.Bool.{Bool}
 use mathlib.Core.List.{List, map}
 use mathlib.Core.Logic.{_↔_}
@@ -81,14 +81,21 @@ abbrev pub ReducedModel : List Rule → (i j : ℕ) → Type 0
 ReducedModel p i j = (r : Rule) → r among p → NegationsHold i r → r .plain ⊆ j → Meets (r .head) j
 
 -- the rules of which P holds, without their "not" and "not not" literals
-pub positive-model : (P : Rule → Type 0) (f : Rule → Bool) → ((r : Rule) → Decides (P r) (f r)) → (p : List Rule) (j : ℕ)
-    → Model (map positive (keep f p)) j ↔ ((r : Rule) → r among p → P r → r .plain ⊆ j → Meets (r .head) j)
-positive-model P f d p j = (
-  λ m r k q b. m (positive r) (among-map positive (keep f p) .1 (r, among-keep f p .1 (k, is-true (d r) q), refl)) (b, ((λ x. ∈-∅ (x .left)), ∅-⊆)),
-  λ m q k. let (r, l, e) = among-map positive (keep f p) .0 k in
-      let (n, t) = among-keep f p .0 l in
-      subst (Satisfies j) (sym e) (λ b. m r n (d r .yes t) (b .0)),
-)
+module _ (P : Rule → Type 0) (f : Rule → Bool) (d : (r : Rule) → Decides (P r) (f r)) (p : List Rule) where
+  pub among-positive : {q : Rule} → q among map positive (keep f p) ↔ ((r : Rule) × (r among p) × P r × (q ≡ positive r))
+  among-positive = (
+    λ m.
+        let (r, k, e) = among-map positive (keep f p) .0 m in
+        let (l, t) = among-keep f p .0 k in
+        (r, l, d r .yes t, e),
+    λ (r, l, h, e). among-map positive (keep f p) .1 (r, among-keep f p .1 (l, is-true (d r) h), e),
+  )
+
+  pub positive-model : (j : ℕ) → Model (map positive (keep f p)) j ↔ ((r : Rule) → r among p → P r → r .plain ⊆ j → Meets (r .head) j)
+  positive-model j = (
+    λ m r k q b. m (positive r) (among-positive .1 (r, k, q, refl)) (b, ((λ x. ∈-∅ (x .left)), ∅-⊆)),
+    λ m q k. let (r, l, h, e) = among-positive .0 k in subst (Satisfies j) (sym e) (λ b. m r l h (b .0)),
+  )
 
 pub reduced-model : (p : List Rule) (i j : ℕ) → Model (reductAt i p) j ↔ ReducedModel p i j
 unfolding reductAt
