@@ -16,9 +16,9 @@ use Rattle.semantics.specs.Words.{ruleIn, programIn, program-more}
 use Rattle.semantics.specs.Definitions.Stable.{satisfies, isModel, positive, smallerModel, stable}
 use Rattle.semantics.specs.Theorems.Stable.{Model, dec-model}
 use Rattle.stable.specs.Applied.{applies, applied, positiveIn, positiveProgramIn}
-use Rattle.stable.specs.Search.{stable-by-search}
+use Rattle.stable.specs.Search.{stable-by-search, applied-model}
 use Rattle.stable.specs.Tested.{ReducedBy}
-use Rattle.stable.specs.declared.Reduced.the-variants.{Model as AModel}
+use Rattle.stable.specs.declared.reduced.Reduced.the-variants.{Model as AModel}
 
 -- what a test of rule j, of n, for failing says
 pub failed : (j n : ℕ) {b : Bool} → ltb j n && not b ≡ true → (j < n) × (b ≡ false)
@@ -54,6 +54,12 @@ module _ (words : List ℕ) where
   searched n i out m r e =
       ap not (e ∙ ap (λ p. smallerModel p i) (r .2))
       ∙ sym (stable-by-search (programIn words n) i ∙ ap (λ b. b && not (smallerModel (applied i (programIn words n)) i)) (r .1))
+
+  -- it is a model of these too
+  pub model-kept : (n i : ℕ) (out : List ℕ) (m : ℕ) → ReducedBy words n i out (AModel m) → isModel (positiveProgramIn out m) i ≡ true
+  model-kept n i out m r =
+      let p = programIn words n in
+      ap (λ q. isModel q i) (r .2) ∙ is-true (dec-model (applied i p) i) (applied-model p i i .1 (λ q k h b. dec-model p i .yes (r .1) q k h))
 
   -- a rule whose body holds in i is satisfied there by its head alone, and one whose body doesn't hold is satisfied
   module _ (i j : ℕ) where

@@ -1,4 +1,4 @@
--- The search for a smaller model, over the rules whose bodies hold in the set. Assumes nothing.
+-- The rules whose bodies hold in a set. Assumes nothing.
 use Prim.Native.Nat.{ℕ, _+_, _*_}
 use mathlib.Core.Bool.{Bool, _&&_}
 use mathlib.Core.List.{List, map}

@@ -1,167 +1,87 @@
 // The stability test of a program without K and M, held in words, four a rule (`programIn` of semantics/specs/Words.antt).
+pub mod growth;
+pub mod nogood;
+pub mod reduced;
+pub mod smaller;
+
+use nogood::Nogood;
+use nogood::by_masks;
+use nogood::by_rule;
+use nogood::by_smaller;
+use nogood::excluded_by;
+use nogood::excludes;
+use nogood::keep;
+use reduced::Reduced;
+use reduced::reduce;
 use sets::has_and_lacks;
-use sets::meets;
-use sets::subset;
+use smaller::smaller_model;
 ghost use mathlib.Core.Path.{_≡_};
-ghost use mathlib.Core.Bool.{not, _&&_, cond};
-ghost use Prim.Native.Nat.{_+_, _*_, _≤_};
-ghost use lib.Dec.{ltb};
+ghost use Prim.Native.Nat.{_*_, _≤_};
 ghost use lib.ListN.{length};
-ghost use Rattle.semantics.specs.Words.{ruleIn, programIn};
-ghost use Rattle.semantics.specs.Definitions.Stable.{satisfies, smallerModel};
-ghost use Rattle.semantics.specs.Definitions.Day.{allowed, stableUnder};
-ghost use Rattle.stable.specs.Applied.{applies as appliesIn, positiveIn, positiveProgramIn};
-ghost use Rattle.stable.specs.Tested.{passes, ReducedBy};
+ghost use Rattle.semantics.specs.Words.{programIn};
+ghost use Rattle.semantics.specs.Definitions.Day.{stableUnder};
+ghost use Rattle.stable.specs.Nogoods.{Nogoods, nogoodWords};
+ghost use Rattle.stable.specs.Tested.{JudgedBy};
 
-// What the test of a set answers: it passes; or it does not, with what to ask first of the next set, of whose number nothing is promised.
-pub enum Tested {
+// What judging a set answers: it is stable and allowed; or it is not, with a nogood.
+enum Judged {
     Stable,
-    Unstable(usize),
+    Excluded(Nogood),
 }
 
-// What reducing by a set answers: the set is a model, and so many rules are written; or a rule, by number, is not satisfied in it.
-pub enum Reduced {
-    Model(usize),
-    Fails(usize),
-}
-
-// Do all body literals of rule j hold in i?
-fn applies(program: &[u16], j: usize, i: u16) -> bool
-    requires { ⌜ 4 * j + 4 ≤ length (now program) ⌝ }
-    ensures { λ r. ⌜ r ≡ appliesIn i (ruleIn (now (program .entry)) j) ⌝ }
+// Is i a stable set of the program that has every in-atom and no out-atom? The words lent are room for the rules whose bodies hold in i.
+fn judge(program: &[u16], rules: usize, ins: u16, outs: u16, i: u16, room: &mut [u16]) -> Judged
+    requires { ⌜ (4 * rules ≤ length (now program)) × (2 * rules ≤ length (now room)) ⌝ }
+    ensures { λ r. ⌜ length (now (room .exit)) ≡ length (now (room .entry)) ⌝ }
+    ensures { λ r. ⌜ JudgedBy ins outs (programIn (now (program .entry)) rules) i r ⌝ }
 {
-    let at = 4 * j;
-    has_and_lacks(i, program[at + 1] | program[at + 3], program[at + 2])
-}
-
-// Is rule j satisfied in i? It is where i lacks a plain or "not not" atom, or has a "not" or head atom.
-fn satisfied(program: &[u16], j: usize, i: u16) -> bool
-    requires { ⌜ 4 * j + 4 ≤ length (now program) ⌝ }
-    ensures { λ r. ⌜ r ≡ satisfies i (ruleIn (now (program .entry)) j) ⌝ }
-{
-    let at = 4 * j;
-    let asked = subset(program[at + 1] | program[at + 3], i);
-    let met = meets(program[at + 2] | program[at], i);
-    !asked | met
-}
-
-// Does i fail what j stands for? That is rule j, where it is one of so many, and otherwise the day's masks.
-fn fails(program: &[u16], rules: usize, ins: u16, outs: u16, j: usize, i: u16) -> bool
-    requires { ⌜ 4 * rules ≤ length (now program) ⌝ }
-    ensures { λ r. ⌜ r ≡ not (cond (ltb j rules) (satisfies i (ruleIn (now (program .entry)) j)) (allowed ins outs i)) ⌝ }
-{
-    if j < rules {
-        return !satisfied(program, j, i);
-    }
-    !has_and_lacks(i, ins, outs)
-}
-
-// Writes the rules whose bodies hold in i, by their heads and plain atoms, two words a rule, and says how many they are. The first of
-// them whose head doesn't meet i ends it: i is no model.
-fn reduce(program: &[u16], rules: usize, i: u16, out: &mut [u16]) -> Reduced
-    requires { ⌜ (4 * rules ≤ length (now program)) × (2 * rules ≤ length (now out)) ⌝ }
-    ensures { λ r. ⌜ length (now (out .exit)) ≡ length (now (out .entry)) ⌝ }
-    ensures { λ r. ⌜ ReducedBy (now (program .entry)) rules i (now (out .exit)) r ⌝ }
-{
-    let mut n = 0;
-    let mut j = 0;
-    while j < rules {
-        if applies(program, j, i) {
-            let from = 4 * j;
-            let head = program[from];
-            if !meets(head, i) {
-                return Reduced::Fails(j);
+    match reduce(program, rules, i, &mut room[..]) {
+        Reduced::Model(n) => {
+            if !has_and_lacks(i, ins, outs) {
+                return Judged::Excluded(by_masks(ins, outs, i));
             }
-            let to = 2 * n;
-            out[to] = head;
-            out[to + 1] = program[from + 1];
-            n += 1;
-        }
-        j += 1;
-    }
-    Reduced::Model(n)
-}
-
-// Is rule j, of a head and plain atoms, satisfied in i?
-fn positive_satisfied(positive: &[u16], j: usize, i: u16) -> bool
-    requires { ⌜ 2 * j + 2 ≤ length (now positive) ⌝ }
-    ensures { λ r. ⌜ r ≡ satisfies i (positiveIn (now (positive .entry)) j) ⌝ }
-{
-    let at = 2 * j;
-    let plain = subset(positive[at + 1], i);
-    let head = meets(positive[at], i);
-    !plain | head
-}
-
-// Is j the number of one of so many rules of heads and plain atoms, and that rule not satisfied in i?
-fn positive_fails(positive: &[u16], rules: usize, j: usize, i: u16) -> bool
-    requires { ⌜ 2 * rules ≤ length (now positive) ⌝ }
-    ensures { λ r. ⌜ r ≡ ltb j rules && not (satisfies i (positiveIn (now (positive .entry)) j)) ⌝ }
-{
-    if j < rules {
-        return !positive_satisfied(positive, j, i);
-    }
-    false
-}
-
-// Is some proper subset of i a model of the rules of heads and plain atoms? The subsets are tried by falling number; the first smaller
-// model ends the search. The rule that failed in the subset before is asked first: it often fails again.
-fn smaller_model(positive: &[u16], rules: usize, i: u16) -> bool
-    requires { ⌜ 2 * rules ≤ length (now positive) ⌝ }
-    ensures { λ r. ⌜ r ≡ smallerModel (positiveProgramIn (now (positive .entry)) rules) i ⌝ }
-{
-    let mut found = false;
-    let mut last = rules;
-    let mut s = i;
-    'subsets: while s > 0 {
-        s = (s - 1) & i;
-        if positive_fails(positive, rules, last, s) {
-            continue 'subsets;
-        }
-        let mut j = 0;
-        'rules: loop {
-            if rules <= j {
-                found = true;
-                break 'subsets;
+            let s = smaller_model(&room[..], n, i);
+            if s == i {
+                return Judged::Stable;
             }
-            if !positive_satisfied(positive, j, s) {
-                last = j;
-                break 'rules;
-            }
-            j += 1;
+            Judged::Excluded(by_smaller(program, rules, i, s))
         }
+        Reduced::Fails(j) => Judged::Excluded(by_rule(program, j)),
     }
-    found
 }
 
-// Is i a stable set of the program that has every in-atom and no out-atom? What `first` stands for is asked before all else: a rule by its
-// number, the masks by any other number. The words lent are room for the rules whose bodies hold in i.
+// The test of a set: is it a stable set of the program that has every in-atom and no out-atom? The nogoods are asked before all else, the
+// one that excluded a set last before the others; a new one is kept.
 pub fn test_set(
     program: &[u16],
     rules: usize,
     ins: u16,
     outs: u16,
     i: u16,
-    first: usize,
+    nogoods: &mut [u16],
     room: &mut [u16],
-) -> Tested
-    requires { ⌜ (4 * rules ≤ length (now program)) × (2 * rules ≤ length (now room)) ⌝ }
+) -> bool
+    requires { ⌜ (4 * rules ≤ length (now program)) × (2 * rules ≤ length (now room)) × (nogoodWords ≤ length (now nogoods)) ⌝ }
+    requires { ⌜ Nogoods ins outs (programIn (now program) rules) (now nogoods) ⌝ }
     ensures { λ r. ⌜ length (now (room .exit)) ≡ length (now (room .entry)) ⌝ }
-    ensures { λ r. ⌜ passes r ≡ stableUnder ins outs (programIn (now (program .entry)) rules) i ⌝ }
+    ensures { λ r. ⌜ length (now (nogoods .exit)) ≡ length (now (nogoods .entry)) ⌝ }
+    ensures { λ r. ⌜ Nogoods ins outs (programIn (now (program .entry)) rules) (now (nogoods .exit)) ⌝ }
+    ensures { λ r. ⌜ r ≡ stableUnder ins outs (programIn (now (program .entry)) rules) i ⌝ }
 {
-    if fails(program, rules, ins, outs, first, i) {
-        return Tested::Unstable(first);
+    let first = nogoods[32] % 16;
+    if excludes(&nogoods[..], first as usize, i) {
+        return false;
     }
-    match reduce(program, rules, i, &mut room[..]) {
-        Reduced::Model(n) => {
-            if !has_and_lacks(i, ins, outs) {
-                return Tested::Unstable(rules);
-            }
-            if smaller_model(&room[..], n, i) {
-                return Tested::Unstable(first);
-            }
-            Tested::Stable
+    let other = excluded_by(&nogoods[..], i);
+    if other < 16 {
+        nogoods[32] = other as u16;
+        return false;
+    }
+    match judge(program, rules, ins, outs, i, &mut room[..]) {
+        Judged::Stable => true,
+        Judged::Excluded(nogood) => {
+            keep(nogood, &mut nogoods[..]);
+            false
         }
-        Reduced::Fails(j) => Tested::Unstable(j),
     }
 }

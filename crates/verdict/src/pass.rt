@@ -1,7 +1,6 @@
 // One pass over the sets of atoms (document 02, K2).
 use sets::full;
 use sets::power;
-use stable::Tested;
 use stable::test_set;
 ghost use mathlib.Core.Path.{_≡_};
 ghost use mathlib.Core.List.{_++_};
@@ -34,7 +33,7 @@ fn put(i: u16, n: usize, out: &mut [u16])
 }
 
 // Known and possible in one pass, which tests each set of atoms once, under the day's masks; and the sets that pass, by rising number, as
-// many as there are words lent. What failed last, a rule or the masks, is asked first (at the beginning rule 0): it often fails again.
+// many as there are words lent. At the beginning the nogoods exclude nothing.
 pub fn gather(
     program: &[u16],
     rules: usize,
@@ -49,23 +48,26 @@ pub fn gather(
 {
     let end = power(atoms as u16);
     let mut room = [0u16; 128];
+    let mut nogoods = [1u16; 34];
     let mut known = full(atoms as u16);
     let mut possible = 0;
     let mut sets = 0;
     let mut tests = 0;
-    let mut first = 0;
     let mut i = 0;
     while i != end {
-        match test_set(program, rules, ins, outs, i, first, &mut room[..]) {
-            Tested::Stable => {
-                put(i, sets, &mut out[..]);
-                known = known & i;
-                possible = possible | i;
-                sets += 1;
-            }
-            Tested::Unstable(rule) => {
-                first = rule;
-            }
+        if test_set(
+            program,
+            rules,
+            ins,
+            outs,
+            i,
+            &mut nogoods[..],
+            &mut room[..],
+        ) {
+            put(i, sets, &mut out[..]);
+            known = known & i;
+            possible = possible | i;
+            sets += 1;
         }
         tests += 1;
         i += 1;

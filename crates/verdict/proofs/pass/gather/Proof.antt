@@ -12,7 +12,7 @@ use Rattle.semantics.specs.Definitions.Pass.{having, passOver, onePass}
 use Rattle.semantics.specs.Definitions.Day.{dayConstraints}
 use Rattle.semantics.specs.Theorems.Pass.{one-pass}
 use Rattle.semantics.specs.Theorems.Day.{stable-under}
-use Rattle.stable.specs.Tested.{passes}
+use Rattle.stable.specs.Nogoods.{Nogoods, none-yet}
 use Rattle.verdict.specs.Over.{over-long}
 use Rattle.verdict.proofs.Passing.{writtenTo, gathered-none, written-none, gathers, writes, passes-over}
 use borrow.Author.Needs.{needs}
@@ -24,12 +24,13 @@ same : {known known′ possible possible′ sets sets′ tests tests′ : ℕ} �
 same d e f g i = having (d i) (e i) (f i) (g i)
 
 abbrev Inv-loop : tie.InvT-loop
-Inv-loop program rules atoms ins outs out₀ end room₀ known₀ possible₀ sets₀ tests₀ first₀ i₀ out room known possible sets tests first i =
+Inv-loop program rules atoms ins outs out₀ end room₀ nogoods₀ known₀ possible₀ sets₀ tests₀ i₀ out room nogoods known possible sets tests i =
     let p = programIn program rules ++ dayConstraints ins outs in
     (tests ≡ i) × (i ≤ end) × (sets ≤ i) × (having known possible sets tests ≡ passOver atoms p (upTo i)) × (out ≡ writtenTo p i out₀) × (length room ≡ 128)
+    × ((length nogoods ≡ 34) × Nogoods ins outs (programIn program rules) nogoods)
 
 abbrev μ-loop : tie.MeasureT-loop
-μ-loop program rules atoms ins outs out₀ end room₀ known₀ possible₀ sets₀ tests₀ first₀ i₀ out room known possible sets tests first i = end - i
+μ-loop program rules atoms ins outs out₀ end room₀ nogoods₀ known₀ possible₀ sets₀ tests₀ i₀ out room nogoods known possible sets tests i = end - i
 
 cast-power : tie.Need-cast-power Inv-loop μ-loop
 cast-power c = search needs
@@ -47,25 +48,25 @@ loop-holds : tie.Need-loop-holds Inv-loop μ-loop
 loop-holds c =
     let a = c .before .before .before .before .args in
     let p = programIn (a .program .now) (a .rules) ++ dayConstraints (a .ins) (a .outs) in
-    (omega arith, omega arith, omega arith, gathered-none (a .atoms) p (c .full .ensures), written-none (a .atoms) p (a .out .now), search needs)
+    (omega arith, omega arith, omega arith, gathered-none (a .atoms) p (c .full .ensures), written-none (a .atoms) p (a .out .now), search needs, (refl, none-yet (a .ins) (a .outs) (programIn (a .program .now) (a .rules))))
 
 slice-aggregate-test-set : tie.Need-slice-aggregate-test-set Inv-loop μ-loop
 slice-aggregate-test-set c = search needs
 
-test-set-requires : tie.Need-test-set-requires Inv-loop μ-loop
-test-set-requires c κs = search needs
+slice-aggregate-test-set-2 : tie.Need-slice-aggregate-test-set-2 Inv-loop μ-loop
+slice-aggregate-test-set-2 c = search needs
 
-enum-told : tie.Need-enum-told Inv-loop μ-loop
-enum-told c = search needs
+test-set-requires : tie.Need-test-set-requires Inv-loop μ-loop
+test-set-requires c κs =
+    let l = c .before .before .before .loop in
+    let x = c .before .before .before .before .before .before .before .before in
+    ((x .pre .0, omega (arith, l .inv .5, x .pre .1), omega (arith, l .inv .6 .0)), l .inv .6 .1)
 
 put-requires : tie.Need-put-requires Inv-loop μ-loop
 put-requires c κs = search needs
 
 add-sets : tie.Need-add-sets Inv-loop μ-loop
 add-sets c = search needs
-
-enum-known-rule : tie.Need-enum-known-rule Inv-loop μ-loop
-enum-known-rule c = search needs
 
 add-tests : tie.Need-add-tests Inv-loop μ-loop
 add-tests c = search needs
@@ -78,31 +79,35 @@ loop-less c = search needs
 
 loop-again : tie.Need-loop-again Inv-loop μ-loop
 loop-again c =
-    let l = c .before .before .before .before .before .loop in
-    let a = c .before .before .before .before .before .before .before .before .before .before .args in
-    let t = c .before .before .test-set in
+    let l = c .before .before .before .before .before .before .before .loop in
+    let a = c .before .before .before .before .before .before .before .before .before .before .before .before .args in
+    let t = c .before .before .before .test-set in
     let p = programIn (a .program .now) (a .rules) ++ dayConstraints (a .ins) (a .outs) in
+    let answer = t .ensures .1 .1 .1 ∙ sym (stable-under (a .ins) (a .outs) (programIn (a .program .now) (a .rules)) (l .i)) in
     let room = t .ensures .0 ∙ l .inv .5 in
+    let long = t .ensures .1 .0 ∙ l .inv .6 .0 in
     ⊎-elim
     (λ w.
-    let told = sym (ap passes (w .1 .given .1)) ∙ t .ensures .1 ∙ sym (stable-under (a .ins) (a .outs) (programIn (a .program .now) (a .rules)) (l .i)) in (
+    let told = sym (w .0 .taken) ∙ answer in (
       omega arith,
       omega arith,
       omega arith,
-      same (w .7) (w .8) (w .9) refl ∙ gathers (a .atoms) p (l .i) (l .inv .3) told,
-      w .6 ∙ (w .3 .ensures ∙ writes (a .atoms) p (l .i) (l .inv .3) (a .out .now) (l .inv .4) (sym told)),
+      same (w .6) (w .7) (w .8) refl ∙ gathers (a .atoms) p (l .i) (l .inv .3) told,
+      w .5 ∙ (w .2 .ensures ∙ writes (a .atoms) p (l .i) (l .inv .3) (a .out .now) (l .inv .4) (sym told)),
       room,
+      (long, t .ensures .1 .1 .0),
     ))
     (λ w.
-    let told = sym (ap passes (w .1 .given .1)) ∙ t .ensures .1 ∙ sym (stable-under (a .ins) (a .outs) (programIn (a .program .now) (a .rules)) (l .i)) in (
+    let told = sym (w .0 .left) ∙ answer in (
       omega arith,
       omega arith,
       omega arith,
-      same (w .4) (w .5) (w .6) refl ∙ gathers (a .atoms) p (l .i) (l .inv .3) told,
-      w .3 ∙ passes-over (a .atoms) p (l .i) (l .inv .3) (a .out .now) (l .inv .4) (sym told),
+      same (w .2) (w .3) (w .4) refl ∙ gathers (a .atoms) p (l .i) (l .inv .3) told,
+      w .1 ∙ passes-over (a .atoms) p (l .i) (l .inv .3) (a .out .now) (l .inv .4) (sym told),
       room,
+      (long, t .ensures .1 .1 .0),
     ))
-    (c .match .came)
+    (c .if1 .came)
 
 same-length : tie.Need-same-length Inv-loop μ-loop
 same-length c = ap length (c .before .loop .inv .4) ∙ over-long _ _
@@ -130,11 +135,10 @@ gather-spec =
     full-requires
     loop-holds
     slice-aggregate-test-set
+    slice-aggregate-test-set-2
     test-set-requires
-    enum-told
     put-requires
     add-sets
-    enum-known-rule
     add-tests
     add-i
     loop-less

@@ -1,11 +1,11 @@
--- `stable::positive_satisfied` meets its contract. Assumes nothing.
+-- `stable::smaller::positive_satisfied` meets its contract. Assumes nothing.
 use mathlib.Core.Path.{sym}
 use Rattle.stable.specs.Search.{positive-satisfies}
 use lib.ListN.{getD}
 use Prim.Native.Nat.{_+_, _*_}
 use borrow.Author.Needs.{needs}
-use Rattle.stable.proofs.positive_satisfied.Statement.{statement}
-use Rattle.stable.proofs.positive_satisfied.Tie as tie
+use Rattle.stable.proofs.smaller.positive_satisfied.Statement.{statement}
+use Rattle.stable.proofs.smaller.positive_satisfied.Tie as tie
 
 mul-at : tie.Need-mul-at
 mul-at c = search needs

@@ -1,4 +1,4 @@
--- `stable::reduce` meets its contract. The rules passed are satisfied in i, and those written are the ones whose bodies hold. Assumes nothing.
+-- `stable::reduced::reduce` meets its contract. The rules passed are satisfied in i, and those written are the ones whose bodies hold. Assumes nothing.
 use Prim.Native.Nat.{ℕ, _-_, _*_, _≤_, _<_}
 use mathlib.Core.Path.{_≡_, refl, sym, ap, ap₂, _∙_}
 use mathlib.Core.Bool.{true}
@@ -13,8 +13,8 @@ use Rattle.semantics.specs.Words.{ruleIn, programIn}
 use Rattle.semantics.specs.Definitions.Stable.{satisfies}
 use Rattle.stable.specs.Applied.{applied, positiveProgramIn}
 use Rattle.stable.proofs.Written.{dec-program, unmet, met, idle, wrote, passed, nothing-written}
-use Rattle.stable.proofs.reduce.Statement.{statement}
-use Rattle.stable.proofs.reduce.Tie as tie
+use Rattle.stable.proofs.reduced.reduce.Statement.{statement}
+use Rattle.stable.proofs.reduced.reduce.Tie as tie
 
 abbrev Inv-loop : tie.InvT-loop
 Inv-loop program rules i out₀ n₀ j₀ out n j =

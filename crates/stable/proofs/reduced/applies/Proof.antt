@@ -1,10 +1,10 @@
--- `stable::applies` meets its contract. Assumes nothing.
+-- `stable::reduced::applies` meets its contract. Assumes nothing.
 use mathlib.Core.Path.{_∙_}
 use Rattle.semantics.specs.Words.{ruleIn}
 use Rattle.stable.specs.Search.{applies-by}
 use borrow.Author.Needs.{needs}
-use Rattle.stable.proofs.applies.Statement.{statement}
-use Rattle.stable.proofs.applies.Tie as tie
+use Rattle.stable.proofs.reduced.applies.Statement.{statement}
+use Rattle.stable.proofs.reduced.applies.Tie as tie
 
 mul-at : tie.Need-mul-at
 mul-at c = search needs

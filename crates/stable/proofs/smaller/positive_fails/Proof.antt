@@ -1,10 +1,10 @@
--- `stable::positive_fails` meets its contract. Assumes nothing.
+-- `stable::smaller::positive_fails` meets its contract. Assumes nothing.
 use mathlib.Core.Path.{ap}
 use mathlib.Core.Bool.{not}
 use borrow.Author.Needs.{needs}
 use borrow.Author.Tests.{lt-ltb, le-ltb}
-use Rattle.stable.proofs.positive_fails.Statement.{statement}
-use Rattle.stable.proofs.positive_fails.Tie as tie
+use Rattle.stable.proofs.smaller.positive_fails.Statement.{statement}
+use Rattle.stable.proofs.smaller.positive_fails.Tie as tie
 
 positive-satisfied-requires : tie.Need-positive-satisfied-requires
 positive-satisfied-requires c κs = search needs
