@@ -23,6 +23,8 @@ pub fn named() -> Vec<(&'static str, Vec<u8>)> {
         ("odd cycle of 15", lettered(15, &odd_cycle(15, 0x3F))),
         ("choices, odd cycle", lettered(15, &choices_and_cycle())),
         ("three colours", lettered(15, &colours())),
+        ("14 choices, p <- not p", lettered(15, &choices_and_odd_loop())),
+        ("loops through ten doors", lettered(15, &doors())),
         ("possible or not", lettered(15, &each(12, |a| rule(&[(HEAD, a), (NOT_M, a << 3)])))),
     ]
 }
@@ -90,6 +92,28 @@ fn odd_cycle(atoms: usize, asked: u16) -> Vec<Rule> {
 fn choices_and_cycle() -> Vec<Rule> {
     let mut rules = odd_cycle(3, 0b111);
     rules.extend(choices(3..15));
+    rules
+}
+
+/// p <- not p beside fourteen choices: p is in every model, and has no support there.
+fn choices_and_odd_loop() -> Vec<Rule> {
+    let mut rules = choices(0..14);
+    rules.push(rule(&[(HEAD, 1 << 14), (NOT, 1 << 14)]));
+    rules.push(names_negations(0x3F, 0x3F));
+    rules
+}
+
+/// Five rooms in a ring, two doors between neighbours, one for each way, that may be open or not; the first room is entered.
+fn doors() -> Vec<Rule> {
+    let room = |number: usize| 1 << (10 + number % 5);
+    let mut rules = choices(0..10);
+    for number in 0..5 {
+        let doors = [1 << number, 1 << (5 + number)];
+        rules.push(rule(&[(HEAD, room(number)), (PLAIN, room(number + 1) | doors[0])]));
+        rules.push(rule(&[(HEAD, room(number + 1)), (PLAIN, room(number) | doors[1])]));
+    }
+    rules.push(rule(&[(HEAD, room(0))]));
+    rules.push(names_negations(room(2), room(3)));
     rules
 }
 

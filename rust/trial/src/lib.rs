@@ -1,12 +1,15 @@
 //! Not for users: what the proved calls are compared with, and what makes the sheets and requests for it.
 //!
 //! `solver` answers the calls of documents 01 and 02 by another method than the proved ones, and shares no code with
-//! them. `cases` are the requests that are stored for the program `calls`, many with answers by hand. The other modules
-//! make sheets, calendars, day masks and requests, run the programs and take their times.
+//! them. `cases` are the requests that are stored for the program `calls`, many with answers by hand. `growth` and `ways`
+//! say of a set of atoms what makes it hard to judge. The other modules make sheets, calendars, day masks and requests,
+//! run the programs and take their times.
 
 pub mod calendars;
 pub mod cases;
 pub mod damage;
+pub mod growth;
+pub mod heads;
 pub mod known;
 pub mod large;
 pub mod masks;
@@ -17,4 +20,5 @@ pub mod sheets;
 pub mod solver;
 pub mod text;
 pub mod timing;
+pub mod ways;
 pub mod write;

@@ -56,7 +56,7 @@ pub fn random_names(random: &mut Random, count: usize, longest: usize) -> Vec<Ve
 }
 
 /// The negations that the rules may use: at most so many.
-fn negations(random: &mut Random, atoms: usize, most: usize) -> Vec<Negation> {
+pub fn negations(random: &mut Random, atoms: usize, most: usize) -> Vec<Negation> {
     let mut all: Vec<Negation> = (0..atoms).flat_map(|a| [Negation::NotKnown(a), Negation::Possible(a)]).collect();
     let count = random.between(0, most.min(all.len()));
     while all.len() > count {
@@ -102,7 +102,7 @@ fn head(random: &mut Random, atoms: usize, heads: Heads, rule: &mut Rule) {
     }
 }
 
-fn subjective(random: &mut Random, pool: &[Negation]) -> (usize, usize) {
+pub fn subjective(random: &mut Random, pool: &[Negation]) -> (usize, usize) {
     match random.pick(pool) {
         Negation::NotKnown(atom) => (random.pick(&[K, NOT_K]), atom),
         Negation::Possible(atom) => (random.pick(&[M, NOT_M]), atom),
