@@ -9,6 +9,7 @@ use Rattle.sets.specs.Decides.{decided, dec-eq}
 use Rattle.sets.specs.Lists.{_among_, nowhere, all-cons}
 use Rattle.sets.specs.Sets.{_∈_, _∖_, ∅, size}
 use Rattle.sets.specs.Members.{dec-∈, ∈-∅, ∈-∖}
+use Rattle.sets.specs.One.{only-one as one-member}
 use Rattle.sets.specs.Size.{size-least, size-most}
 use Rattle.semantics.specs.Definitions.Rules.{Rule}
 use Rattle.semantics.specs.Definitions.Propagation.{Pair}
@@ -53,13 +54,7 @@ module _ (x : Pair) (r : Rule) where
     )
       where
         no-other : {b : ℕ} → a ∈ rest → b ∈ rest → (b ≡ a → ⊥) → ⊥
-        no-other {b} m k d =
-            omega (
-              arith,
-              same-size,
-              size-least rest (b ∷ a ∷ []) (all-cons (λ c. b ≡ c → ⊥) d (none _), (none _, tt))
-                  (all-cons (λ c. c ∈ rest) k (all-cons (λ c. c ∈ rest) m (none _))),
-            )
+        no-other m k d = d (one-member (omega (arith, same-size)) k m)
 
         no-member : EntersBy x r a → (a ∈ rest → ⊥) → ⊥
         no-member q u = omega (arith, same-size, size-most rest [] (λ b k. absurd (u (subst (λ c. c ∈ rest) (only-one (q .2) k) k))))

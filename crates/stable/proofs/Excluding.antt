@@ -79,11 +79,11 @@ module _ (r : Rule) (i s x y : ℕ) where
 -- no other way is left: a head atom is in s
 pub head-stays : (r : Rule) (i s : ℕ) → SatisfiedIn i s r → not (r .head meets? i ∖ s) || r .plain meets? i ∖ s ≡ false → (r .plain ∪ r .notNots) ∖ i ≡ 0
     → r .nots ∩ i ≡ 0 → 0 < r .head ∩ s
-head-stays r i s leaves f asked forbidden =
+head-stays r i s satisfied f asked forbidden =
     let body = all-in (r .plain ∪ r .notNots) i asked in
     let (plain, notNots) = ∪-⊆ (r .plain) (r .notNots) i .0 body in
     let apart : Meets (r .plain) (i ∖ s) → ⊥ = λ q. dec-imp (dec-meets (r .head) (i ∖ s)) (dec-meets (r .plain) (i ∖ s)) .no f (λ _. q) in
-    some-in (leaves
+    some-in (satisfied
     (plain, ((λ q. none-left forbidden (∈-∩ (q .common) (r .nots) i .1 (q .left, q .right))), notNots))
     (record { into = λ {a} m. ⊎-elim (λ k. k) (λ n. absurd (apart (record { common = a; left = m; right = ∈-∖ a i s .1 (plain .into m, n) }))) (decided (dec-∈ a s)) }))
 

@@ -11,32 +11,29 @@ use lib.ListN.{getD}
 use Rattle.sets.specs.Decides.{Decides, decided, is-false, dec-and, dec-eq, dec-le}
 use Rattle.sets.specs.Lists.{_among_, upTo, among-map, among-upTo}
 use Rattle.sets.specs.Sets.{_∈_, _⊆_, _⊆?_, _∩_, _∪_, _∖_, ∅, single, size}
-use Rattle.sets.specs.Members.{∈-∅, ∈-∪, ∈-∖, ∈-single, ∩-⊆, ∪-⊆, ⊆-refl, ⊆-trans, ⊆-antisym, dec-⊆}
+use Rattle.sets.specs.Members.{∈-∅, ∈-∪, ∈-∖, ∈-single, ∪-⊆, ⊆-refl, ⊆-trans, ⊆-antisym, dec-⊆}
 use Rattle.semantics.specs.Definitions.Rules.{Rule}
 use Rattle.sets.specs.One.{OneOf}
 use Rattle.semantics.specs.Theorems.Stable.{Model, dec-smaller}
 use Rattle.semantics.specs.Theorems.SingleHeads.{Positive}
 use Rattle.stable.specs.Applied.{positiveIn, positiveProgramIn}
 use Rattle.stable.specs.Growth.{OneIn, ClosedIn, Grown, Grows, Supported}
-use Rattle.stable.specs.Smaller.{SmallerOr, unsupported, grown-whole}
+use Rattle.stable.specs.Smaller.{SmallerOr, whole-closed, unsupported, grown-whole}
 
--- i is closed; so what no closed set lacks and is all of i is what is grown
-pub whole-closed : (p : List Rule) (i : ℕ) → ClosedIn p i i
-whole-closed p i r k one b = ∩-⊆ (r .head) i
-
+-- what no closed set lacks and is all of i is what is grown
 pub all-grown : (p : List Rule) {i l : ℕ} → ((x : ℕ) → ClosedIn p i x → l ⊆ x) → l ≡ i → Grown p i l
 all-grown p {i} {l} least e = record { closed = subst (ClosedIn p i) (sym e) (whole-closed p i); least = λ {x} k. least x k }
 
 module _ (words : List ℕ) where
-  pub among-positive : (n : ℕ) {r : Rule} → r among positiveProgramIn words n ↔ ((k : ℕ) × (k < n) × (r ≡ positiveIn words k))
+  pub among-in-words : (n : ℕ) {r : Rule} → r among positiveProgramIn words n ↔ ((k : ℕ) × (k < n) × (r ≡ positiveIn words k))
   unfolding positiveProgramIn
-  among-positive n = (
+  among-in-words n = (
     λ m. let (k, l, e) = among-map (positiveIn words) (upTo n) .0 m in (k, among-upTo n .0 l, e),
     λ (k, l, e). among-map (positiveIn words) (upTo n) .1 (k, among-upTo n .1 l, e),
   )
 
   pub plain-only : (n : ℕ) → Positive (positiveProgramIn words n)
-  plain-only n r m = let (_, _, e) = among-positive n .0 m in (ap (λ z. z .nots) e, ap (λ z. z .notNots) e)
+  plain-only n r m = let (_, _, e) = among-in-words n .0 m in (ap (λ z. z .nots) e, ap (λ z. z .notNots) e)
 
   module _ (i : ℕ) where
     -- ---- the atoms that are the only head atom in i of one of the first j rules
@@ -65,8 +62,8 @@ module _ (words : List ℕ) where
 
       pub supported-all : (a : ℕ) → a ∈ set ↔ Supported (positiveProgramIn words j) i a
       supported-all a = (
-        λ m. let (k, l, one, q) = h a .0 m in (positiveIn words k, among-positive j .1 (k, l, refl), one, q),
-        λ (r, m, one, q). let (k, l, e) = among-positive j .0 m in
+        λ m. let (k, l, one, q) = h a .0 m in (positiveIn words k, among-in-words j .1 (k, l, refl), one, q),
+        λ (r, m, one, q). let (k, l, e) = among-in-words j .0 m in
             h a .1 (k, l, subst (OneIn i) e one, subst (λ z. a ∈ z .head ∩ i) e q),
       )
 
@@ -98,7 +95,7 @@ module _ (words : List ℕ) where
                 kept = ⊆-trans (g .kept) (more .0);
                 within = λ {x} c q.
                     let w = g .within c q in
-                    ∪-⊆ m head x .1 (w, c (positiveIn words j) (among-positive n .1 (j, h, refl)) one (⊆-trans s w));
+                    ∪-⊆ m head x .1 (w, c (positiveIn words j) (among-in-words n .1 (j, h, refl)) one (⊆-trans s w));
                 closed = λ e k b o p.
                     let same : m ≡ l = ⊆-antisym (subst (λ z. m ⊆ z) e (more .0)) (g .kept) in
                     ⊎-elim (λ z. subst (λ y. positiveIn words y .head ∩ i ⊆ l) (sym z) (subst (λ y. head ⊆ y) e (more .1))) (λ z. g .closed same k (omega arith) o p) (decided (dec-eq k j));
@@ -116,7 +113,7 @@ module _ (words : List ℕ) where
         kept = g .kept;
         within = g .within;
         closed = λ e r k one b.
-            let (j, h, z) = among-positive n .0 k in
+            let (j, h, z) = among-in-words n .0 k in
             subst (λ q. q .head ∩ i ⊆ l) (sym z) (g .closed e j h (subst (OneIn i) z one) (subst (λ q. q .plain ⊆ l) z b));
       }
 

@@ -1,15 +1,11 @@
 -- The test of a set under day masks, by its two parts. Assumes nothing.
 use Prim.Native.Nat.{ℕ}
-use mathlib.Core.Path.{_≡_, refl, ap, _∙_}
-use mathlib.Core.Bool.{Bool, true, false, _&&_}
+use mathlib.Core.Path.{_≡_, sym, ap, _∙_}
+use mathlib.Core.Bool.{Bool, true, false, _&&_, and-false}
 use mathlib.Core.List.{List}
 use Rattle.semantics.specs.Definitions.Rules.{Rule}
 use Rattle.semantics.specs.Definitions.Stable.{stable}
 use Rattle.semantics.specs.Definitions.Day.{allowed, stableUnder}
-
-and-false : (a : Bool) → false ≡ a && false
-and-false true = refl
-and-false false = refl
 
 module _ (ins outs i : ℕ) (p : List Rule) where
   -- it lacks an in-atom or has an out-atom
@@ -22,4 +18,4 @@ module _ (ins outs i : ℕ) (p : List Rule) where
 
   -- a set that is not stable does not pass
   pub not-stable : false ≡ stable p i → false ≡ stableUnder ins outs p i
-  not-stable e = and-false (allowed ins outs i) ∙ ap (λ b. allowed ins outs i && b) e
+  not-stable e = sym (and-false (allowed ins outs i)) ∙ ap (λ b. allowed ins outs i && b) e

@@ -30,7 +30,7 @@ pub record Grows (p : List Rule) (i l m : ℕ) : Type 0 where
   pub within : {x : ℕ} → ClosedIn p i x → l ⊆ x → m ⊆ x
   pub closed : m ≡ l → ClosedIn p i l
 
--- a is the only head atom of some rule in i
+-- a is the only head atom in i of some rule
 abbrev pub Supported : List Rule → (i a : ℕ) → Type 0
 Supported p i a = (r : Rule) × (r among p) × OneIn i r × (a ∈ r .head ∩ i)
 

@@ -1,7 +1,7 @@
 -- Nogoods: each excludes many sets at once. Assumes nothing.
 use Prim.Native.Nat.{ℕ, _+_, _*_, _<_}
-use mathlib.Core.Path.{_≡_, refl, sym, ap, subst}
-use mathlib.Core.Bool.{Bool, true, false, _&&_}
+use mathlib.Core.Path.{_≡_, refl, sym, ap, subst, _∙_}
+use mathlib.Core.Bool.{true, false, _&&_, and-false}
 use mathlib.Core.List.{List}
 use mathlib.Core.Logic.{_⊎_, inl, inr, ⊎-elim}
 use native.Mathlib.Omega.{arith}
@@ -9,7 +9,7 @@ use lib.ListN.{getD, replicate, getD-replicate}
 use Rattle.sets.specs.Decides.{is-false, decided}
 use Rattle.sets.specs.Lists.{_among_}
 use Rattle.sets.specs.Sets.{_∈_, _⊆_, _⊂_, Meets, _∪_, _∩_, _∖_, ∅, single}
-use Rattle.sets.specs.Members.{∈-∩, ∈-∪, ∈-∖, ∈-single, ∖-⊆, ⊆-trans, dec-∈}
+use Rattle.sets.specs.Members.{∈-∩, ∈-∪, ∈-∖, ∈-single, ∖-⊆, ∪-⊆, ⊆-trans, dec-∈}
 use Rattle.sets.specs.One.{OneOf}
 use Rattle.semantics.specs.Definitions.Rules.{Rule}
 use Rattle.semantics.specs.Definitions.Stable.{stable}
@@ -57,11 +57,7 @@ SatisfiedIn i s r = Applies i r → r .plain ⊆ s → Meets (r .head) s
 
 module _ (ins outs : ℕ) (p : List Rule) where
   exclude : {i : ℕ} → (Stable p i → ⊥) → stableUnder ins outs p i ≡ false
-  exclude {i} n = go (allowed ins outs i)
-    where
-      go : (b : Bool) → b && stable p i ≡ false
-      go true = is-false (dec-stable p i) n
-      go false = refl
+  exclude {i} n = ap (λ b. allowed ins outs i && b) (is-false (dec-stable p i) n) ∙ and-false (allowed ins outs i)
 
   -- without an unfounded set of atoms, what is left is a smaller model
   pub unfounded-excludes : {x y u a : ℕ} → a ∈ u → u ⊆ x → ((r : Rule) → r among p → Blocked x y u r) → Excludes ins outs p x y
@@ -104,8 +100,7 @@ module _ (ins outs : ℕ) (p : List Rule) where
   pub rule-excludes : (r : Rule) → r among p → Excludes ins outs p (r .plain ∪ r .notNots) (r .nots ∪ r .head)
   rule-excludes r k i h = exclude (λ st.
       let (has, lacks) = dec-allowed (r .plain ∪ r .notNots) (r .nots ∪ r .head) i .yes h in
-      let plain : r .plain ⊆ i = record { into = λ {a} q. has .into (∈-∪ a (r .plain) (r .notNots) .1 (inl q)) } in
-      let notNots : r .notNots ⊆ i = record { into = λ {a} q. has .into (∈-∪ a (r .plain) (r .notNots) .1 (inr q)) } in
+      let (plain, notNots) = ∪-⊆ (r .plain) (r .notNots) i .0 has in
       let nots : Meets (r .nots) i → ⊥ = λ q. lacks (record { common = q .common; left = ∈-∪ (q .common) (r .nots) (r .head) .1 (inl (q .left)); right = q .right }) in
       let q = reduct-model p i .0 (st .model) r k (plain, (nots, notNots)) in
       lacks (record { common = q .common; left = ∈-∪ (q .common) (r .nots) (r .head) .1 (inr (q .left)); right = q .right }))
@@ -139,4 +134,4 @@ module _ (ins outs : ℕ) (p : List Rule) where
   pub none-yet : Nogoods ins outs p (replicate nogoodWords 1)
   none-yet k l =
       subst (λ z. Excludes ins outs p z (lacksIn (replicate nogoodWords 1) k)) (sym (getD-replicate nogoodWords (2 * k) 1 0 (omega arith)))
-      (subst (Excludes ins outs p 1) (sym (getD-replicate nogoodWords (2 * k + 1) 1 0 (omega arith))) (none-excluded))
+      (subst (Excludes ins outs p 1) (sym (getD-replicate nogoodWords (2 * k + 1) 1 0 (omega arith))) none-excluded)

@@ -2,7 +2,7 @@
 -- the set has one head atom there, and so for every sheet of single heads. Assumes nothing.
 use Prim.Native.Nat.{ℕ, _≤_}
 use mathlib.Core.Path.{_≡_, refl, sym, ap, subst, _∙_}
-use mathlib.Core.Bool.{Bool, true, false, not, _&&_, Bool·not-not}
+use mathlib.Core.Bool.{Bool, true, false, not, _&&_, and-true, and-false, Bool·not-not}
 use mathlib.Core.List.{List}
 use mathlib.Core.Logic.{_↔_}
 use native.Mathlib.Omega.{arith}
@@ -71,20 +71,12 @@ module _ (p : List Rule) (i : ℕ) where
   whole-stable g =
       let none = is-false (dec-smaller (applied i p) i) (λ (j, s, m). grown-whole applied-positive g j s m) in
       stable-by-search p i ∙ ap (λ b. isModel p i && not b) none ∙ and-true (isModel p i)
-    where
-      and-true : (b : Bool) → b && true ≡ b
-      and-true true = refl
-      and-true false = refl
 
   -- a set whose growth stops at a smaller model is not
   pub stops-smaller : {l : ℕ} → Grown (applied i p) i l → (l ≡ i → ⊥) → Model (applied i p) l → stable p i ≡ false
   stops-smaller {l} g n m =
       let some = is-true (dec-smaller (applied i p) i) (l, record { within = grown-within applied-positive g; differ = n }, m) in
       stable-by-search p i ∙ ap (λ b. isModel p i && not b) some ∙ and-false (isModel p i)
-    where
-      and-false : (b : Bool) → b && false ≡ false
-      and-false true = refl
-      and-false false = refl
 
   module _ (single : SingleHeads p) where
     -- there the code does not search: `search` requires a rule with two among the rules written, and these are `applied i p` (`ReducedBy`)
@@ -113,7 +105,7 @@ module _ (p : List Rule) (i : ℕ) where
         within x c q k one b =
             let (r, h, a, e) = among-applied .0 k in
             let s = subst (λ z. z .plain ⊆ x → z .head ⊆ x) (sym e) (c r h (a .1)) b in
-            record { into = λ {a} n. s .into (∈-∩ a (q .head) i .0 n .0) }
+            ⊆-trans (∩-⊆-left (q .head) i) s
 
 -- ---- "for every such sheet, guess and set, with or without day masks"
 module _ (x : Sheet) (single : singleHeads x ≡ true) (ins outs g i : ℕ) where

@@ -23,6 +23,10 @@ pub record SmallerOr (p : List Rule) (i r : ℕ) : Type 0 where
   pub model : Model p r
   pub whole : r ≡ i → smallerModel p i ≡ false
 
+-- i is closed
+pub whole-closed : (p : List Rule) (i : ℕ) → ClosedIn p i i
+whole-closed p i r k one b = ∩-⊆ (r .head) i
+
 -- a set that contains l is l and what it has beyond
 with-beyond : {l j : ℕ} → l ⊆ j → l ∪ (j ∖ l) ≡ j
 with-beyond {l} {j} s = ∈-ext (l ∪ (j ∖ l)) j (λ a. (
@@ -47,7 +51,7 @@ module _ {p : List Rule} (plain-only : Positive p) where
     models-contain g s m = g .least (model-closed s m)
 
     pub grown-within : {l : ℕ} → Grown p i l → l ⊆ i
-    grown-within g = g .least (λ r k one b. ∩-⊆ (r .head) i)
+    grown-within g = g .least (whole-closed p i)
 
     -- a set that is grown whole has no smaller model
     pub grown-whole : Grown p i i → (j : ℕ) → j ⊂ i → Model p j → ⊥

@@ -70,10 +70,6 @@ pub closed-model : {q : List Rule} {x : ℕ} → Closed q x → Model (constrain
 closed-model {q} c k r m =
     ⊎-elim (λ e. k r (among-constraints q .1 (m, e))) (λ ne. closed-satisfies c r m ne) (decided (dec-eq (r .head) ∅))
 
--- "the least model" of any rules is a model of those that have a head
-pub least-satisfies : (q : List Rule) (r : Rule) → r among q → (r .head ≡ ∅ → ⊥) → Satisfies (leastModel q) r
-least-satisfies q = closed-satisfies (least-is q .closed)
-
 module _ {q : List Rule} (plain-only : Positive q) (single : SingleHeads q) where
   -- where a rule has one head atom, that atom is the one that holds
   pub model-closed : {x : ℕ} → Model q x → Closed q x
@@ -114,23 +110,11 @@ module _ (p : List Rule) where
   pub reduced-positive : (i : ℕ) → Positive (reductAt i p)
   reduced-positive i q m = let (_, _, _, e) = among-reduced i .0 m in (ap (λ z. z .nots) e, ap (λ z. z .notNots) e)
 
-  -- closed under them, and a model of their constraints, by the rules of the program itself
+  -- closed under them, by the rules of the program itself
   pub reduced-closed : (i x : ℕ) → Closed (reductAt i p) x ↔ ((r : Rule) → r among p → NegationsHold i r → r .plain ⊆ x → r .head ⊆ x)
   reduced-closed i x = (
     λ c r m n. c (positive r) (among-reduced i .1 (r, m, n, refl)),
     λ c q m. let (r, l, n, e) = among-reduced i .0 m in subst (λ z. z .plain ⊆ x → z .head ⊆ x) (sym e) (c r l n),
-  )
-
-  pub reduced-constraints : (i : ℕ) → Model (constraintsOf (reductAt i p)) i ↔ Model (constraintsOf p) i
-  reduced-constraints i = (
-    λ k r m b.
-        let (l, e) = among-constraints p .0 m in
-        k (positive r) (among-constraints (reductAt i p) .1 (among-reduced i .1 (r, l, b .1, refl), e)) (b .0, ((λ z. ∈-∅ (z .left)), ∅-⊆)),
-    λ k q m b.
-        let (l, h) = among-constraints (reductAt i p) .0 m in
-        let (r, o, n, e) = among-reduced i .0 l in
-        subst (λ z. Meets (z .head) i) (sym e)
-        (k r (among-constraints p .1 (o, subst (λ z. z .head ≡ ∅) e h)) (subst (λ z. z .plain ⊆ i) e (b .0), n)),
   )
 
   module _ (single : SingleHeads p) where

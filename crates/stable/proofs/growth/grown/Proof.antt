@@ -7,7 +7,8 @@ use Rattle.sets.specs.Sets.{_⊆_}
 use Rattle.sets.specs.Members.{∅-⊆, ⊆-le, ⊂-less}
 use Rattle.stable.specs.Applied.{positiveProgramIn}
 use Rattle.stable.specs.Growth.{ClosedIn}
-use Rattle.stable.proofs.Growing.{whole-closed, all-grown}
+use Rattle.stable.specs.Smaller.{whole-closed}
+use Rattle.stable.proofs.Growing.{all-grown}
 use borrow.Author.Needs.{needs}
 use Rattle.stable.proofs.growth.grown.Statement.{statement}
 use Rattle.stable.proofs.growth.grown.Tie as tie
