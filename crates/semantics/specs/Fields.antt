@@ -4,7 +4,7 @@ use mathlib.Core.List.{List, [], _∷_, map}
 use lib.ListN.{getD, take, drop}
 use Rattle.sets.specs.Lists.{flat, upTo}
 use Rattle.sets.specs.Sets.{⋃}
-use Rattle.semantics.specs.Definitions.Sheet.{byteAt, wordAt}
+use Rattle.semantics.specs.Definitions.Sheet.{Opposites, byteAt, wordAt, pairFrom}
 
 module _ (s : List ℕ) where
   -- the n bytes from a place
@@ -36,6 +36,10 @@ module _ (s : List ℕ) where
 
   abbrev pub rulesFrom : (n at : ℕ) → List (List ℕ)
   rulesFrom n at = map (λ i. ruleFrom (at + 16 * i)) (upTo n)
+
+  -- n pairs from a place
+  abbrev pub pairsFrom : (n at : ℕ) → List Opposites
+  pairsFrom n at = map (λ i. pairFrom s (at + 2 * i)) (upTo n)
 
 -- two masks of each rule
 abbrev pub masksOf : (m m′ : ℕ) → List (List ℕ) → List ℕ

@@ -4,12 +4,15 @@ pub mod Reading
 pub mod Turns
 pub mod Fields
 pub mod Names
+pub mod Pairs
 pub mod Places
 pub mod Accepted
 pub mod Layout
 pub mod Bytes
 pub mod Fitting
 pub mod Exact
+pub mod PairCases
+pub mod PairExact
 pub mod Following
 -- ---- what the calls return, for any bytes and any source
 pub mod Returned
@@ -55,7 +58,11 @@ pub mod Constraints
 pub mod Day
 pub mod DaySource
 pub mod DayViews
+pub mod Written
+pub mod Opposites
 pub mod DayRules
+pub mod TwoSections
+pub mod FirstBytes
 pub mod DayCall
 pub mod LeastModel
 pub mod SingleHeads

@@ -6,16 +6,27 @@ use native.Mathlib.Numerals.{add-one}
 use lib.ListN.{getD, take}
 use lib.Seq.{getD-take}
 use Rattle.sets.specs.Lists.{upTo, map-upTo-suc}
+use Rattle.sets.specs.Sets.{∅}
 use Rattle.semantics.specs.Definitions.Rules.{Rule}
-use Rattle.semantics.specs.Definitions.Sheet.{mostRules}
+use Rattle.semantics.specs.Definitions.Sheet.{Opposites, mostRules, mostPairs}
+use Rattle.semantics.specs.Definitions.Check.{opposed}
 
--- as many rules as a program has room for: a sheet has no more
+-- as many rules as a program has room for: a sheet has no more, its pairs counted
 abbrev pub programRoom : ℕ
-programRoom = mostRules
+programRoom = mostRules + mostPairs
 
 -- where the first m words stay, each of them does
 pub word-stays : (m : ℕ) (words others : List ℕ) → take m words ≡ take m others → (i : ℕ) → i < m → getD words i 0 ≡ getD others i 0
 word-stays m words others e i h = sym (getD-take m words i 0 h) ∙ ap (λ z. getD z i 0) e ∙ getD-take m others i 0 h
+
+-- ---- rules as a sheet has them
+-- a rule without K and M: "Masks 0 to 7 are: head, plain, not, not not, K, not K, M, not M."
+abbrev pub eightMasks : Rule → List ℕ
+eightMasks c = c .head ∷ c .plain ∷ c .nots ∷ c .notNots ∷ ∅ ∷ ∅ ∷ ∅ ∷ ∅ ∷ []
+
+-- pairs, as a sheet would have them as rules
+abbrev pub pairsWritten : List Opposites → List (List ℕ)
+pairsWritten pairs = map eightMasks (map opposed pairs)
 
 -- ---- rules with K and M: eight words a rule, masks 0 to 7
 module _ (words : List ℕ) where

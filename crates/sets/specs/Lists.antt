@@ -248,6 +248,11 @@ unfolding flat
 flat-single [] = refl
 flat-single (x ∷ l) = ap (λ m. x ∷ m) (flat-single l)
 
+pub flat-append : {A B : Type 0} (f : A → List B) (l m : List A) → flat f (l ++ m) ≡ flat f l ++ flat f m
+unfolding flat
+flat-append f [] m = refl
+flat-append f (x ∷ l) m = ap (λ z. f x ++ z) (flat-append f l m) ∙ sym (append-assoc (f x) (flat f l) (flat f m))
+
 pub flat-snoc : {A B : Type 0} (f : A → List B) (l : List A) (x : A) → flat f (l ++ x ∷ []) ≡ flat f l ++ f x
 unfolding flat
 flat-snoc f [] x = append-nil (f x)

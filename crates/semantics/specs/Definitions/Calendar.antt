@@ -68,11 +68,12 @@ entriesOf entries rule = keep (λ e. eqb (e .rule) rule) entries
 unfoldable pub inForce : List Entry → (minute rule : ℕ) → Bool
 inForce entries minute rule = null (entriesOf entries rule) || some (holds minute) (entriesOf entries rule)
 
--- "the sheet with only the rules in force"
+-- "the sheet with only the rules in force"; the pairs stand "at every minute" (K7)
 abbrev pub atMinute : List Entry → (minute : ℕ) → Sheet → Sheet
 atMinute entries minute x = record {
   names = x .names;
   rules = map (λ i. getD (x .rules) i []) (keep (inForce entries minute) (upTo (length (x .rules))));
+  pairs = x .pairs;
   rulesAt = x .rulesAt;
 }
 

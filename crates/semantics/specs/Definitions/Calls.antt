@@ -1,6 +1,6 @@
 -- Document 01, "Turned back at the door": what the calls for a guess, the listing and the query return, for every source, guess, atom and
 -- number of words. A source, `from`, is the setting that a call is said of, or the refusal that comes before all that is checked here. The
--- calls of document 01 have `ofSheet` (Check.antt) of the sheet's bytes, which refuses with 1 to 7; those sold have `ofDay` (Day.antt) and
+-- calls of document 01 have `ofSheet` (Check.antt) of the sheet's bytes, which refuses with 1 to 7 and 15; those sold have `ofDay` (Day.antt) and
 -- `ofMinute` (Calendar.antt), which begin with it.
 use Prim.Native.Nat.{ℕ, _*_, _^_}
 use mathlib.Core.Bool.{Bool, cond}

@@ -5,17 +5,13 @@ use mathlib.Core.List.{List, _++_, map}
 use lib.Dec.{ltb}
 use Rattle.sets.specs.Sets.{_⊆?_, _meets?_, ∅, single, membersOf}
 use Rattle.semantics.specs.Definitions.Rules.{Rule}
-use Rattle.semantics.specs.Definitions.Setting.{Setting}
+use Rattle.semantics.specs.Definitions.Setting.{Setting, add}
 use Rattle.semantics.specs.Definitions.Returned.{Returned, answer}
 use Rattle.semantics.specs.Definitions.Check.{ofSheet}
 use Rattle.semantics.specs.Definitions.Stable.{stable}
 use Rattle.semantics.specs.Definitions.Calls.{provided}
 
 -- ---- constraints
--- constraints added to a setting: they follow the program of every guess
-abbrev pub add : List Rule → Setting → Setting
-add cs s = record { atoms = s .atoms; negations = s .negations; program = λ g. s .program g ++ cs }
-
 -- "← not a"
 abbrev pub mustHave : ℕ → Rule
 mustHave a = record { head = ∅; plain = ∅; nots = single a; notNots = ∅ }

@@ -68,7 +68,7 @@ abbrev linesOf : Reading Sheet → List ℕ
 linesOf (field x end) = sheetLine (numbersOf x) ++ flat (viewLines x) (listing (setting x)) ++ tallyLine (tallyOf (setting x))
 linesOf (refused number place) = refusedLine number place
 
--- "reads one sheet from standard input (its first 1,222 bytes decide)"
+-- "reads one sheet from standard input"; document 02, K7: "up to 1,237 bytes, since the longest sheet is 1,236"
 abbrev pub mostRead : ℕ
 mostRead = longestSheet + 1
 

@@ -1,7 +1,7 @@
--- What the rest of document 01 is said of: a number of atoms, the epistemic negations, and for each guess its reduct. A sheet gives one
+-- What the rest of document 01 is said of: a number of atoms, the epistemic negations, and for each guess its program: the reduct, and constraints added to it. A sheet gives one
 -- setting; what is said of every setting holds too where rules are added or left out, or another reduct is taken.
 use Prim.Native.Nat.{ℕ, _^_}
-use mathlib.Core.List.{List}
+use mathlib.Core.List.{List, _++_}
 use lib.ListN.{length}
 use Rattle.sets.specs.Lists.{upTo}
 use Rattle.semantics.specs.Definitions.Rules.{Rule, EpistemicRule}
@@ -18,6 +18,10 @@ abbrev pub settingOf : ℕ → List EpistemicRule → Setting
 settingOf n rs =
     let es = negationsOf n rs in
     record { atoms = n; negations = es; program = λ g. reduct n (holdsBy es g) rs }
+
+-- constraints added to a setting: they follow the program of every guess
+abbrev pub add : List Rule → Setting → Setting
+add cs s = record { atoms = s .atoms; negations = s .negations; program = λ g. s .program g ++ cs }
 
 -- "k is how many there are"
 abbrev pub k : Setting → ℕ

@@ -7,7 +7,7 @@ use lib.ListN.{length}
 use Rattle.sets.specs.Lists.{some, keep, flat, upTo, sameList}
 use Rattle.sets.specs.Sets.{setOf}
 use Rattle.semantics.specs.Definitions.Reading.{times}
-use Rattle.semantics.specs.Definitions.Sheet.{Sheet, countAt, nameByteAt, nameAt, maskAt, ruleAt, sections}
+use Rattle.semantics.specs.Definitions.Sheet.{Sheet, atomsOf, countAt, nameByteAt, nameAt, maskAt, ruleAt, pairAt, front, pairsAt, sections}
 use Rattle.semantics.specs.Definitions.Check.{opened}
 use Rattle.semantics.specs.Definitions.Returned.{accepted, refusal, limited}
 use Rattle.semantics.specs.Definitions.Calendar.{entryAt, calendarOf, inForce, rulesInForce, changesAt, minutesOfChange, changesCall}
@@ -22,7 +22,7 @@ Changed = map (λ p. changesCall (p .0) (p .1) (p .2)) changes ≡ map (λ p. p 
 
 -- where entries begin or end
 computed : map (λ p. changesAtEnds (p .0) (p .1) (p .2)) changes ≡ map (λ p. p .3) changes
-unfolding some keep flat upTo sameList setOf times countAt nameByteAt nameAt maskAt ruleAt sections opened entryAt calendarOf inForce rulesInForce inserted endsOf changesAtEnds
+unfolding some keep flat upTo sameList setOf times atomsOf countAt nameByteAt nameAt maskAt ruleAt pairAt front pairsAt sections opened entryAt calendarOf inForce rulesInForce inserted endsOf changesAtEnds
 computed = refl
 
 pub changed : Changed
@@ -34,14 +34,14 @@ LongestChanged = map (changesCall equal longestHours) (127 ∷ 128 ∷ []) ≡ r
 
 -- what the sheet a; a says
 abbrev facts : Sheet
-facts = record { names = (97 ∷ []) ∷ []; rules = fact ∷ fact ∷ []; rulesAt = 4 }
+facts = record { names = (97 ∷ []) ∷ []; rules = fact ∷ fact ∷ []; pairs = []; rulesAt = 4 }
   where
     fact : List ℕ
     fact = 1 ∷ 0 ∷ 0 ∷ 0 ∷ 0 ∷ 0 ∷ 0 ∷ 0 ∷ []
 
 both : Both equal longestHours facts longestEntries
-unfolding some flat upTo sameList times countAt nameByteAt nameAt maskAt ruleAt sections opened entryAt calendarOf
-both = record { end = 36; opens = refl; calendarEnd = 321; reads = refl }
+unfolding some flat upTo sameList times countAt nameByteAt nameAt maskAt ruleAt front pairsAt sections opened entryAt calendarOf
+both = record { end = 37; opens = refl; calendarEnd = 321; reads = refl }
 
 at-longest : keep (changesAt longestEntries 2) (endsOf longestEntries) ≡ longestChanges
 unfolding some keep flat upTo setOf inForce rulesInForce inserted endsOf

@@ -8,14 +8,14 @@ use lib.ListN.{length}
 use Rattle.sets.specs.Lists.{every, some, keep, flat, upTo, downFrom, sameList}
 use Rattle.sets.specs.Sets.{setOf, membersOf}
 use Rattle.semantics.specs.Definitions.Reading.{times}
-use Rattle.semantics.specs.Definitions.Sheet.{longestSheet, countAt, nameByteAt, nameAt, maskAt, ruleAt, sections}
+use Rattle.semantics.specs.Definitions.Sheet.{longestSheet, atomsOf, countAt, nameByteAt, nameAt, maskAt, ruleAt, pairAt, front, twoSections, pairsAt, sections}
 use Rattle.semantics.specs.Definitions.Reduct.{reductRule, reduct}
 use Rattle.semantics.specs.Definitions.Setting.{Setting, k}
-use Rattle.semantics.specs.Definitions.Check.{opened, said, ofSheet, check}
-use Rattle.semantics.specs.Definitions.Returned.{accepted, read, answer, afterwards}
+use Rattle.semantics.specs.Definitions.Check.{setting, opened, openedTwoSections, said, ofSheet, numbers, numbersOf, check}
+use Rattle.semantics.specs.Definitions.Returned.{accepted, refusal, read, answer, afterwards}
 use Rattle.semantics.specs.Definitions.Stable.{reductAt, smallerModel, stable, stableSets}
 use Rattle.semantics.specs.Definitions.Verdict.{beliefSets, guessFound, verdict}
-use Rattle.semantics.specs.Definitions.Calls.{forGuess, forAtom, verdictCall, beliefSetsCall, listCall, queryCall}
+use Rattle.semantics.specs.Definitions.Calls.{forGuess, forAtom, verdictCall, beliefSetsCall, resultOf, listCall, queryCall}
 use Rattle.semantics.specs.Definitions.Propagation.{steps, contradicted}
 use Rattle.semantics.specs.Definitions.Order.{order}
 use Rattle.semantics.specs.Definitions.Listing.{View, Tally, isWorldView, covered, tallyOf, viewsAlong, listing}
@@ -42,6 +42,7 @@ use Rattle.semantics.specs.Examples.Changed.{Changed, changed, LongestCh
 use Rattle.semantics.specs.Examples.Passes.{passes}
 use Rattle.semantics.specs.Examples.Days.{dayVerdicts, daySets, dayContradicted, dayListings, dayDesk, dayQueries}
 use Rattle.semantics.specs.Examples.LeastModels.{chain, stages, leastModels, singles, leastBeliefs}
+use Rattle.semantics.specs.Examples.Opposites.{knownSheets, old, oldLengths, pairAnswers, withPair, turned, asRule, withoutPair, pairListings, manyPairs, pairPrograms, minutePrograms, pairVerdicts, pairSets, pairContradicted, pairDayListings, pairDesk, pairQueries, pairMinutes, pairPasses, pairSingles, pairBeliefs}
 
 -- the list of a setting by the definitions, and by the walk along the order
 abbrev listed : Setting → List View × Tally
@@ -105,9 +106,41 @@ pub record Computed : Type 0 where
   pub single-or-not : map (λ p. said singleHeads (p .0)) singles ≡ map (λ p. accepted (p .1)) singles
   pub beliefs-pass : map (λ p. answer (λ s. keep (byLeastModel (s .program (p .3))) (upTo (2 ^ s .atoms))) (ofDay (p .0) (p .1) (p .2))) leastBeliefs ≡ map (λ p. accepted (p .4)) leastBeliefs
   pub beliefs-stable : map (λ p. answer (λ s. beliefSets s (p .3)) (ofDay (p .0) (p .1) (p .2))) leastBeliefs ≡ map (λ p. accepted (p .4)) leastBeliefs
+  -- document 02, K7: sheets without the third section, and what the check answers where there is one
+  pub two-sections-refused : map (λ e. check (old e)) knownSheets ≡ map (refusal 1) oldLengths
+  -- these by the two sections of document 01, and by those the sheets with their last byte
+  pub two-sections-listed : map (λ e. answer (λ x. listed (setting x)) (read (openedTwoSections (old e)))) knownSheets ≡ map (λ e. accepted (e .views, e .tally)) knownSheets
+  pub last-byte-refused : map (λ e. answer numbersOf (read (openedTwoSections (e .bytes)))) knownSheets ≡ map (refusal 6) oldLengths
+  pub pairs-checked : map (λ p. check (p .0)) pairAnswers ≡ map (λ p. p .1) pairAnswers
+  -- sheets with a pair: what the check answers, and the list by the definitions and by the walk; the list with the pair the other way round, with
+  -- a rule in its place, and without it
+  pub pairs-are-no-rules : map (λ p. check (withPair (p .0))) pairListings ≡ map (λ p. accepted (numbers 2 (length (p .0)) (p .1))) pairListings
+  pub pairs-listed : map (λ p. answer resultOf (ofSheet (withPair (p .0)))) pairListings ≡ map (λ p. accepted (p .2)) pairListings
+  pub pairs-walked : map (λ p. answer walked (ofSheet (withPair (p .0)))) pairListings ≡ map (λ p. accepted (p .2 .views, p .2 .tally)) pairListings
+  pub pairs-turned : map (λ p. answer resultOf (ofSheet (turned (p .0)))) pairListings ≡ map (λ p. accepted (p .2)) pairListings
+  pub pairs-as-rules : map (λ p. answer resultOf (ofSheet (asRule (p .0)))) pairListings ≡ map (λ p. accepted (p .2)) pairListings
+  pub without-pairs : map (λ p. answer resultOf (ofSheet (withoutPair (p .0)))) pairListings ≡ map (λ p. accepted (p .3)) pairListings
+  pub many-pairs-listed : map (λ p. answer resultOf (ofSheet (p .0))) manyPairs ≡ map (λ p. accepted (p .1)) manyPairs
+  -- the constraints themselves
+  pub pair-programs-are : map (λ p. answer (λ s. s .program (p .1)) (ofSheet (p .0))) pairPrograms ≡ map (λ p. accepted (p .2)) pairPrograms
+  pub minute-programs-are : map (λ p. answer (λ s. s .program 0) (ofMinute (p .0) (p .1) (p .2))) minutePrograms ≡ map (λ p. accepted (p .3)) minutePrograms
+  -- what the calls return, with and without masks, and which guesses are contradicted
+  pub pair-verdicts-returned : map (λ p. verdictCall (ofDay (p .0) (p .1) (p .2)) (p .3)) pairVerdicts ≡ map (λ p. p .4) pairVerdicts
+  pub pair-sets-returned : map (λ p. beliefSetsCall (ofDay (p .0) (p .1) (p .2)) (p .3) (p .4)) pairSets ≡ map (λ p. p .5) pairSets
+  pub pair-contradicted-or-not : map (λ p. answer (λ s. contradicted s (p .3)) (ofDay (p .0) (p .1) (p .2))) pairContradicted ≡ map (λ p. accepted (p .4)) pairContradicted
+  pub pair-listings-returned : map (λ p. listCall (ofDay (p .0) (p .1) (p .2)) (p .3)) pairDayListings ≡ map (λ p. p .4) pairDayListings
+  pub pair-desk-returned : map (λ p. deskNumber (deskCall (ofDay (p .0) (p .1) (p .2)) (length (p .3)))) pairDesk ≡ map (λ p. p .4) pairDesk
+  pub pair-desk-written : map (λ p. afterwards deskBytes (deskCall (ofDay (p .0) (p .1) (p .2)) (length (p .3))) (p .3)) pairDesk ≡ map (λ p. p .5) pairDesk
+  pub pair-queries-answered : map (λ p. queryCall (ofDay (p .0) (p .1) (p .2)) (p .3)) pairQueries ≡ map (λ p. p .4) pairQueries
+  pub pair-minutes-returned : map (λ p. listCall (ofMinute (p .0) (p .1) (p .2)) (p .3)) pairMinutes ≡ map (λ p. p .4) pairMinutes
+  -- what is gathered, and the sets that pass by the least model
+  pub pair-passes-gather : map (λ p. answer (λ s. onePass (s .atoms) (s .program (p .1))) (ofSheet (p .0))) pairPasses ≡ map (λ p. accepted (p .2)) pairPasses
+  pub pair-single-or-not : map (λ p. said singleHeads (p .0)) pairSingles ≡ map (λ p. accepted (p .1)) pairSingles
+  pub pair-beliefs-pass : map (λ p. answer (λ s. keep (byLeastModel (s .program (p .3))) (upTo (2 ^ s .atoms))) (ofDay (p .0) (p .1) (p .2))) pairBeliefs ≡ map (λ p. accepted (p .4)) pairBeliefs
+  pub pair-beliefs-stable : map (λ p. answer (λ s. beliefSets s (p .3)) (ofDay (p .0) (p .1) (p .2))) pairBeliefs ≡ map (λ p. accepted (p .4)) pairBeliefs
 
 pub computed : Computed
-unfolding ℕ-discrete ones onesIn every some keep flat upTo downFrom sameList setOf zeros times countAt nameByteAt nameAt maskAt ruleAt sections opened ofSheet check reductRule reduct reductAt smallerModel stable stableSets beliefSets guessFound verdict forGuess verdictCall beliefSetsCall steps contradicted order isWorldView covered tallyOf viewsAlong walk forAtom queryCall yesNoOpen answerBy digits namesOf printed entryAt calendarOf inForce ofMinute onePass membersOf dayConstraints underMasks grown byLeastModel
+unfolding ℕ-discrete ones onesIn every some keep flat upTo downFrom sameList setOf zeros times atomsOf countAt nameByteAt nameAt maskAt ruleAt pairAt front twoSections pairsAt sections opened openedTwoSections ofSheet check reductRule reduct reductAt smallerModel stable stableSets beliefSets guessFound verdict forGuess verdictCall beliefSetsCall steps contradicted order isWorldView covered tallyOf viewsAlong walk forAtom queryCall yesNoOpen answerBy digits namesOf printed entryAt calendarOf inForce ofMinute onePass membersOf dayConstraints underMasks grown byLeastModel
 computed = record {
   checks = refl;
   lists = refl;
@@ -146,4 +179,29 @@ computed = record {
   single-or-not = refl;
   beliefs-pass = refl;
   beliefs-stable = refl;
+  two-sections-refused = refl;
+  two-sections-listed = refl;
+  last-byte-refused = refl;
+  pairs-checked = refl;
+  pairs-are-no-rules = refl;
+  pairs-listed = refl;
+  pairs-walked = refl;
+  pairs-turned = refl;
+  pairs-as-rules = refl;
+  without-pairs = refl;
+  many-pairs-listed = refl;
+  pair-programs-are = refl;
+  minute-programs-are = refl;
+  pair-verdicts-returned = refl;
+  pair-sets-returned = refl;
+  pair-contradicted-or-not = refl;
+  pair-listings-returned = refl;
+  pair-desk-returned = refl;
+  pair-desk-written = refl;
+  pair-queries-answered = refl;
+  pair-minutes-returned = refl;
+  pair-passes-gather = refl;
+  pair-single-or-not = refl;
+  pair-beliefs-pass = refl;
+  pair-beliefs-stable = refl;
 }

@@ -15,7 +15,7 @@ use Rattle.semantics.specs.Examples.Listings.{result}
 -- ---- sheets
 -- seven atoms under K and six under M
 abbrev thirteen : List ℕ
-thirteen = letters 7 ++ 1 ∷ rule 0 0 0 0 127 0 63 0
+thirteen = letters 7 ++ 1 ∷ rule 0 0 0 0 127 0 63 0 ++ 0 ∷ []
 
 -- a ← not not a; b ← K a. The one negation is "not K a". By guess 0 the second rule is b ← a, and W is ∅ and {a, b}; by guess 1 it is
 -- deleted, and W is ∅ and {a}
@@ -73,7 +73,7 @@ dayVerdicts =
     ∷ (kiln .bytes, 1, 3, 0, refusal 13 0)
     ∷ (kiln .bytes, 3, 1, 0, refusal 13 0)
     -- "after 7 and before 8": the sheet, the masks, the guess
-    ∷ (zeros 3, 1, 0, 1, refusal 6 2)
+    ∷ (zeros 4, 1, 0, 1, refusal 6 3)
     ∷ (thirteen, 1, 1, 0, refusal 7 0)
     ∷ (sheet-7 .bytes, 2, 0, 1, refusal 13 0)
     ∷ (sheet-7 .bytes, 1, 1, 1, refusal 13 0)
@@ -202,7 +202,7 @@ dayListings =
     ∷ (sheet-6 .bytes, 1, 0, 3, refusal 9 1)
     ∷ (sheet-6 .bytes, 4, 0, 0, refusal 13 0)
     ∷ (sheet-6 .bytes, 1, 1, 0, refusal 13 0)
-    ∷ (zeros 3, 1, 1, 0, refusal 6 2)
+    ∷ (zeros 4, 1, 1, 0, refusal 6 3)
     ∷ (sheet (a ∷ []) (rule 2 0 0 0 0 0 0 0 ∷ []), 2, 0, 0, refusal 5 4)
     ∷ []
 
@@ -213,7 +213,7 @@ dayDesk =
     (sheet-6 .bytes, 1, 0, zeros 21, 0, 1 ∷ 0 ∷ 1 ∷ 0 ∷ 2 ∷ 0 ∷ 1 ∷ 0 ∷ 0 ∷ 0 ∷ 0 ∷ 0 ∷ 2 ∷ 0 ∷ 1 ∷ 0 ∷ 1 ∷ 0 ∷ 1 ∷ 0 ∷ 0 ∷ [])
     ∷ (sheet-6 .bytes, 1, 0, zeros 19, 9 * 65536 + 1, zeros 19)
     ∷ (sheet-6 .bytes, 4, 0, zeros 19, 13 * 65536, zeros 19)
-    ∷ (zeros 3, 1, 0, [], 6 * 65536 + 2, [])
+    ∷ (zeros 4, 1, 0, [], 6 * 65536 + 3, [])
     ∷ []
 
 -- ---- queries

@@ -24,7 +24,7 @@ verdicts =
     ∷ (sheet-2 .bytes, 2, refusal 8 0)
     ∷ (sheet-6 .bytes, 4, refusal 8 0)
     -- the sheet is judged before the guess
-    ∷ (0 ∷ 0 ∷ 0 ∷ [], 1, refusal 6 2)
+    ∷ (zeros 4, 1, refusal 6 3)
     ∷ []
 
 -- a sheet, a guess, the number of words lent, and the belief sets

@@ -7,7 +7,7 @@ use Rattle.semantics.specs.Definitions.Day.{dayConstraints}
 use Rattle.semantics.specs.Examples.Sheets.{a, b, c, sheet, rule}
 
 -- a rule without K and M
-abbrev objective : (head plain nots notNots : ℕ) → Rule
+abbrev pub objective : (head plain nots notNots : ℕ) → Rule
 objective m0 m1 m2 m3 = record { head = m0; plain = m1; nots = m2; notNots = m3 }
 
 -- c ← b; b ← a; a: each rule waits for the next one, so each step adds one atom

@@ -22,7 +22,7 @@ listings =
     -- no view needs no word, whatever the number of guesses
     ∷ (sheet-3 .bytes, 0, accepted (result (tallied 0 0 1 1 1 0) []))
     -- the sheet is judged before the words
-    ∷ (0 ∷ 0 ∷ 0 ∷ [], 0, refusal 6 2)
+    ∷ (zeros 4, 0, refusal 6 3)
     ∷ (sheet (a ∷ []) (rule 2 0 0 0 0 0 0 0 ∷ []), 0, refusal 5 4)
     ∷ (0 ∷ 1 ∷ zeros 15, 4, refusal 1 17)
     ∷ []
@@ -41,7 +41,7 @@ deskCalls =
     ∷ (sheet-3 .bytes, zeros 12, 0, 0 ∷ 0 ∷ 0 ∷ 0 ∷ 1 ∷ 0 ∷ 1 ∷ 0 ∷ 1 ∷ 0 ∷ 0 ∷ 0 ∷ [])
     ∷ (sheet-3 .bytes, zeros 11, 9 * 65536, zeros 11)
     -- the sheet is judged before the words
-    ∷ (0 ∷ 0 ∷ 0 ∷ [], [], 6 * 65536 + 2, [])
+    ∷ (zeros 4, [], 6 * 65536 + 3, [])
     ∷ []
   where
     -- 1 0 1 1 0 0, and the record 0 1 1 1

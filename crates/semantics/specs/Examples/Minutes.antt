@@ -6,19 +6,19 @@ use Rattle.sets.specs.Lists.{flat}
 use Rattle.semantics.specs.Definitions.Returned.{Returned, accepted, refusal}
 use Rattle.semantics.specs.Definitions.Listing.{tallied}
 use Rattle.semantics.specs.Definitions.Calls.{Result}
-use Rattle.semantics.specs.Examples.Sheets.{a, sheet, rule, view, kiln, sheet-6}
+use Rattle.semantics.specs.Examples.Sheets.{zeros, a, b, rule, pair, sheetWith, sheet, view, kiln, sheet-6}
 use Rattle.semantics.specs.Examples.Limits.{letters}
 use Rattle.semantics.specs.Examples.Listings.{result}
 use Rattle.semantics.specs.Examples.Calendars.{hours}
 
 -- "a count byte [..], then entries"
-abbrev calendar : List (List ℕ) → List ℕ
+abbrev pub calendar : List (List ℕ) → List ℕ
 calendar es = length es ∷ flat (λ e. e) es
 
 -- ---- the listing at a minute
 -- seven atoms under K in rule 0 and six under M in rule 1: 13 negations
 abbrev thirteen : List ℕ
-thirteen = letters 7 ++ 2 ∷ rule 0 0 0 0 127 0 0 0 ++ rule 0 0 0 0 0 0 63 0
+thirteen = letters 7 ++ 2 ∷ rule 0 0 0 0 127 0 0 0 ++ rule 0 0 0 0 0 0 63 0 ++ 0 ∷ []
 
 -- a sheet, a calendar, a minute, the number of words lent, and the result
 abbrev pub minuteListings : List (List ℕ × List ℕ × ℕ × ℕ × Returned Result)
@@ -43,7 +43,7 @@ minuteListings =
     -- "The whole sheet is checked first, 7 included and with all its rules counted", whatever is in force and whatever the calendar is
     ∷ (thirteen, calendar (hours 1 0 100 ∷ []), 200, 0, refusal 7 0)
     ∷ (thirteen, [], 200, 0, refusal 7 0)
-    ∷ (0 ∷ 0 ∷ 0 ∷ [], 65 ∷ [], 10080, 0, refusal 6 2)
+    ∷ (zeros 4, 65 ∷ [], 10080, 0, refusal 6 3)
     -- "12 [..] after the calendar and before 9"
     ∷ (sheet-6 .bytes, 0 ∷ 0 ∷ [], 10080, 0, refusal 6 1)
     ∷ (sheet-6 .bytes, calendar (hours 2 600 1200 ∷ []), 10080, 0, refusal 11 1)
@@ -82,6 +82,10 @@ minuteListings =
 abbrev pub equal : List ℕ
 equal = sheet (a ∷ []) (rule 1 0 0 0 0 0 0 0 ∷ rule 1 0 0 0 0 0 0 0 ∷ [])
 
+-- a; b, and the pair of both
+abbrev paired : List ℕ
+paired = sheetWith (a ∷ b ∷ []) (rule 1 0 0 0 0 0 0 0 ∷ rule 2 0 0 0 0 0 0 0 ∷ []) (pair 0 1 ∷ [])
+
 -- a sheet, a calendar, the number of words lent, and the minutes
 abbrev pub changes : List (List ℕ × List ℕ × ℕ × Returned (List ℕ))
 changes =
@@ -107,4 +111,8 @@ changes =
     ∷ (thirteen, [], 0, refusal 7 0)
     ∷ (equal, [], 0, refusal 1 0)
     ∷ (equal, calendar (hours 2 100 200 ∷ []), 0, refusal 11 1)
+    -- K7: a pair changes no minute, and has no rule number; one atom twice in a pair
+    ∷ (paired, calendar (hours 0 100 300 ∷ hours 1 200 400 ∷ []), 4, accepted (100 ∷ 200 ∷ 300 ∷ 400 ∷ []))
+    ∷ (paired, calendar (hours 2 100 200 ∷ []), 0, refusal 11 1)
+    ∷ (sheetWith (a ∷ []) [] (pair 0 0 ∷ []), [], 0, refusal 15 5)
     ∷ []

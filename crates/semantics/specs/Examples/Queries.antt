@@ -3,7 +3,7 @@ use Prim.Native.Nat.{ℕ}
 use mathlib.Core.List.{List, [], _∷_, _++_}
 use Rattle.semantics.specs.Definitions.Returned.{Returned, accepted, refusal}
 use Rattle.semantics.specs.Definitions.Query.{Answer, Yes, No, Open, None}
-use Rattle.semantics.specs.Examples.Sheets.{a, b, sheet, rule, kiln, sheet-2, sheet-3, sheet-5, sheet-6, sheet-7, sheet-9}
+use Rattle.semantics.specs.Examples.Sheets.{zeros, a, b, sheet, rule, kiln, sheet-2, sheet-3, sheet-5, sheet-6, sheet-7, sheet-9}
 use Rattle.semantics.specs.Examples.Limits.{letters}
 
 -- a sheet, an atom, and the answer
@@ -31,11 +31,11 @@ queries =
     ∷ (kiln .bytes, 2, refusal 10 0)
     ∷ (sheet-3 .bytes, 1, refusal 10 0)
     ∷ (sheet-9 .bytes, 1, refusal 10 0)
-    ∷ (0 ∷ 0 ∷ [], 0, refusal 10 0)
+    ∷ (zeros 3, 0, refusal 10 0)
     -- ←, of no atom
     ∷ (sheet [] (rule 0 0 0 0 0 0 0 0 ∷ []), 0, refusal 10 0)
     -- the sheet is judged before the atom
-    ∷ (0 ∷ 0 ∷ 0 ∷ [], 0, refusal 6 2)
+    ∷ (zeros 4, 0, refusal 6 3)
     ∷ (sheet (a ∷ []) (rule 2 0 0 0 0 0 0 0 ∷ []), 7, refusal 5 4)
-    ∷ (letters 7 ++ 1 ∷ rule 0 0 0 0 127 0 63 0, 7, refusal 7 0)
+    ∷ (letters 7 ++ 1 ∷ rule 0 0 0 0 127 0 63 0 ++ 0 ∷ [], 7, refusal 7 0)
     ∷ []

@@ -1,4 +1,4 @@
--- Document 01, "Sheets with known lists": each sheet by its bytes.
+-- Document 01, "Sheets with known lists": each sheet by its bytes, with "a last byte 0" (document 02, K7).
 use Prim.Native.Nat.{ℕ, zero, suc, _/_, _%_}
 use mathlib.Core.List.{List, [], _∷_, _++_}
 use lib.ListN.{length}
@@ -33,9 +33,21 @@ mask m = m % 256 ∷ m / 256 ∷ []
 abbrev pub rule : (head plain nots notNots K notK M notM : ℕ) → List ℕ
 rule m0 m1 m2 m3 m4 m5 m6 m7 = mask m0 ++ mask m1 ++ mask m2 ++ mask m3 ++ mask m4 ++ mask m5 ++ mask m6 ++ mask m7
 
--- the bytes of names and of rules, each section "after its count"
+-- the bytes of names and of rules, each section "after its count": the two sections of document 01
+abbrev pub twoSectionSheet : (names rules : List (List ℕ)) → List ℕ
+twoSectionSheet names rules = length names ∷ flat (λ n. n) names ++ length rules ∷ flat (λ r. r) rules
+
+-- K7: "two atom numbers per pair"
+abbrev pub pair : (first second : ℕ) → List ℕ
+pair first second = first ∷ second ∷ []
+
+-- and of pairs: "a third section: a count byte 0 to 7, then two atom numbers per pair"
+abbrev pub sheetWith : (names rules pairs : List (List ℕ)) → List ℕ
+sheetWith names rules pairs = twoSectionSheet names rules ++ length pairs ∷ flat (λ p. p) pairs
+
+-- without pairs: "a last byte 0"
 abbrev pub sheet : (names rules : List (List ℕ)) → List ℕ
-sheet names rules = length names ∷ flat (λ n. n) names ++ length rules ∷ flat (λ r. r) rules
+sheet names rules = twoSectionSheet names rules ++ 0 ∷ []
 
 -- ---- what is known of a sheet
 abbrev pub view : (guess known possible sets : ℕ) → View
@@ -81,8 +93,8 @@ module _ where
 
   abbrev pub ten : List Listed
   ten =
-      -- "Bytes 0, 0"
-      entry (0 ∷ 0 ∷ []) (numbers 0 0 0) (view 0 0 0 1 ∷ []) (tallied 1 0 0 1 0 0)
+      -- "Bytes 0, 0", and the last byte 0
+      entry (0 ∷ 0 ∷ 0 ∷ []) (numbers 0 0 0) (view 0 0 0 1 ∷ []) (tallied 1 0 0 1 0 0)
       ∷ sheet-2
       ∷ sheet-3
       -- a ← M a
@@ -110,4 +122,4 @@ kiln = entry bytes (numbers 2 2 1) (view 0 1 1 1 ∷ []) (tallied 1 0 1 1 0 0)
 
     -- "second rule: ten zero bytes, 1, five zero bytes"
     bytes : List ℕ
-    bytes = 2 ∷ glaze ++ bisque ++ 2 ∷ (3 ∷ zeros 15) ++ (zeros 10 ++ 1 ∷ zeros 5)
+    bytes = 2 ∷ glaze ++ bisque ++ 2 ∷ (3 ∷ zeros 15) ++ (zeros 10 ++ 1 ∷ zeros 5) ++ 0 ∷ []

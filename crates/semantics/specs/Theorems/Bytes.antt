@@ -1,4 +1,4 @@
--- The bytes of an accepted sheet are those that its names and rules have by the layout. Assumes nothing.
+-- The bytes of an accepted sheet are those that its names, rules and pairs have by the layout. Assumes nothing.
 use Prim.Native.Nat.{ℕ, _+_, _/_, _%_, _≤_, _<_}
 use mathlib.Core.Path.{_≡_, sym, ap, ap₂, _∙_}
 use mathlib.Core.List.{List, [], _∷_, _++_, append-nil, append-assoc}
@@ -8,12 +8,12 @@ use lib.ListN.{length, take}
 use lib.Seq.{take-suc, take-add, take-length}
 use Rattle.sets.specs.Lists.{all-getD, flat, flat-snoc}
 use Rattle.semantics.specs.Definitions.Reading.{Reading, field, times}
-use Rattle.semantics.specs.Definitions.Sheet.{Sheet, byteAt, nameByteAt, nameAt, maskAt, ruleAt}
+use Rattle.semantics.specs.Definitions.Sheet.{Opposites, Sheet, byteAt, nameByteAt, nameAt, maskAt, ruleAt, pairAt}
 use Rattle.semantics.specs.Definitions.Check.{opened}
 use Rattle.semantics.specs.Theorems.Reading.{times-field, times-length}
-use Rattle.semantics.specs.Theorems.Fields.{present-field, name-read, name-field, mask-field}
-use Rattle.semantics.specs.Theorems.Accepted.{accepted-read}
-use Rattle.semantics.specs.Theorems.Layout.{IsBytes, nameBytes, maskBytes, ruleBytes, sheetBytes}
+use Rattle.semantics.specs.Theorems.Fields.{present-field, name-read, name-field, mask-field, pair-field}
+use Rattle.semantics.specs.Theorems.Accepted.{FrontRead, accepted-read}
+use Rattle.semantics.specs.Theorems.Layout.{IsBytes, nameBytes, maskBytes, ruleBytes, pairBytes, frontBytes, sheetBytes}
 
 module _ (s : List ℕ) where
   -- from the place p to the place q the bytes bs stand
@@ -63,21 +63,43 @@ module _ (s : List ℕ) where
     rule-stands atoms earlier p v q e =
         times-stand (λ _. maskAt s atoms) maskBytes (λ _. mask-stands atoms) 8 p (present-field s p 16 (times 8 [] (λ _. maskAt s atoms) p) e .1)
 
-    sheet-stands : (x : Sheet) (end : ℕ) → opened s ≡ field x end → s ≡ sheetBytes (x .names) (x .rules)
-    sheet-stands x end e =
-        let r = accepted-read s x end e .0 in
-        let n = length (x .names) in
-        let m = length (x .rules) in
-        let (_, names) = times-stand (nameAt s) nameBytes name-stands n 1 (r .names-read) in
-        let (_, rules) = times-stand (λ _. ruleAt s n) ruleBytes (rule-stands n) m (x .rulesAt) (r .rules-read) in
+    -- names and rules, up to the place after them
+    front-stands : (names rules : List (List ℕ)) (rulesAt end : ℕ) → FrontRead s names rules rulesAt end → end ≤ length s → take end s ≡ frontBytes names rules
+    front-stands names rules rulesAt end r l =
+        let n = length names in
+        let m = length rules in
+        let (_, named) = times-stand (nameAt s) nameBytes name-stands n 1 (r .names-read) in
+        let (_, ruled) = times-stand (λ _. ruleAt s n) ruleBytes (rule-stands n) m rulesAt (r .rules-read) in
         let names-counted : take 1 s ≡ n ∷ [] = byte-stands 0 .1 (r .some-bytes) ∙ ap (λ b. b ∷ []) (r .atoms-byte) in
-        let rules-counted : take (x .rulesAt) s ≡ take (r .countedAt) s ++ m ∷ [] =
+        let rules-counted : take rulesAt s ≡ take (r .countedAt) s ++ m ∷ [] =
         ap (λ p. take p s) (r .after-count) ∙ byte-stands (r .countedAt) .1 (r .more-bytes)
         ∙ ap (λ b. take (r .countedAt) s ++ b ∷ []) (r .rules-byte) in
-        let before-rules : take (x .rulesAt) s ≡ (n ∷ flat nameBytes (x .names)) ++ m ∷ [] =
-        rules-counted ∙ ap (λ z. z ++ m ∷ []) (names (omega (arith, r .more-bytes)) ∙ ap (λ z. z ++ flat nameBytes (x .names)) names-counted) in
-        sym (ap (λ p. take p s) (r .ends) ∙ take-length s) ∙ rules (omega (arith, r .ends)) ∙ ap (λ z. z ++ flat ruleBytes (x .rules)) before-rules
-        ∙ append-assoc (n ∷ flat nameBytes (x .names)) (m ∷ []) (flat ruleBytes (x .rules))
+        let before-rules : take rulesAt s ≡ (n ∷ flat nameBytes names) ++ m ∷ [] =
+        rules-counted ∙ ap (λ z. z ++ m ∷ []) (named (omega (arith, r .more-bytes)) ∙ ap (λ z. z ++ flat nameBytes names) names-counted) in
+        ruled l ∙ ap (λ z. z ++ flat ruleBytes rules) before-rules ∙ append-assoc (n ∷ flat nameBytes names) (m ∷ []) (flat ruleBytes rules)
 
-pub accepted-bytes : (s : List ℕ) → IsBytes s → (x : Sheet) (end : ℕ) → opened s ≡ field x end → s ≡ sheetBytes (x .names) (x .rules)
+    pair-stands : (atoms : ℕ) (earlier : List Opposites) (p : ℕ) (v : Opposites) (q : ℕ) → pairAt s atoms earlier p ≡ field v q → Stand p q (pairBytes v)
+    pair-stands atoms earlier p v q e =
+        let (ev, eq, _, _) = pair-field s atoms earlier p q v e in (
+          omega arith,
+          λ l.
+              let after : q ≡ p + 1 + 1 = omega arith in
+              ap (λ z. take z s) after ∙ byte-stands (p + 1) .1 (omega arith) ∙ ap (λ z. z ++ byteAt s (p + 1) ∷ []) (byte-stands p .1 (omega arith))
+              ∙ append-assoc (take p s) (byteAt s p ∷ []) (byteAt s (p + 1) ∷ []) ∙ ap (λ w. take p s ++ pairBytes w) (sym ev),
+        )
+
+    sheet-stands : (x : Sheet) (end : ℕ) → opened s ≡ field x end → s ≡ sheetBytes (x .names) (x .rules) (x .pairs)
+    sheet-stands x end e =
+        let r = accepted-read s x end e .0 in
+        let n = length (x .pairs) in
+        let at = r .pairsCounted in
+        let (_, paired) = times-stand (pairAt s (length (x .names))) pairBytes (pair-stands (length (x .names))) n (at + 1) (r .pairs-read) in
+        let F = frontBytes (x .names) (x .rules) in
+        let counted : take (at + 1) s ≡ F ++ n ∷ [] =
+        byte-stands at .1 (r .last-bytes)
+        ∙ ap₂ (λ z b. z ++ b ∷ []) (front-stands (x .names) (x .rules) (x .rulesAt) at (r .front-read) (omega (arith, r .last-bytes))) (r .pairs-byte) in
+        sym (ap (λ p. take p s) (r .ends) ∙ take-length s) ∙ paired (omega (arith, r .ends)) ∙ ap (λ z. z ++ flat pairBytes (x .pairs)) counted
+        ∙ append-assoc F (n ∷ []) (flat pairBytes (x .pairs))
+
+pub accepted-bytes : (s : List ℕ) → IsBytes s → (x : Sheet) (end : ℕ) → opened s ≡ field x end → s ≡ sheetBytes (x .names) (x .rules) (x .pairs)
 accepted-bytes s h = sheet-stands s (all-getD (λ b. b < 256) s 0 h (omega arith))

@@ -109,7 +109,7 @@ module _ (sheet calendar : List ℕ) (minute : ℕ) where
 
   -- "Listing at a minute is the listing of the sheet with only the rules in force": of its bytes
   pub as-list : {x : Sheet} {entries : List Entry} → Both sheet calendar x entries → minute ≤ lastMinute
-      → ofMinute sheet calendar minute ≡ ofSheet (sheetBytes (x .names) (atMinute entries minute x .rules))
+      → ofMinute sheet calendar minute ≡ ofSheet (sheetBytes (x .names) (atMinute entries minute x .rules) (x .pairs))
   as-list {x} {entries} b l = minute-given b l ∙ sym (minute-bytes entries minute x sheet (b .end) (b .opens))
 
 -- a calendar without entries leaves every sheet's listing as it is, and every refusal of a sheet

@@ -1,5 +1,5 @@
 -- A calendar is accepted, or refused with a number and a place, exactly where its bytes are as CalendarCases.antt says. Assumes nothing.
-use Prim.Native.Nat.{ℕ, zero, suc, _+_, _-_, _≤_, _<_}
+use Prim.Native.Nat.{ℕ, suc, _+_, _≤_, _<_}
 use mathlib.Core.Path.{_≡_, sym, ap, ap₂, _∙_, subst}
 use mathlib.Core.List.{List, []}
 use mathlib.Core.Logic.{_↔_, ⊎-elim}
@@ -7,12 +7,12 @@ use native.Mathlib.Omega.{arith}
 use lib.Dec.{leb, eqb}
 use lib.ListN.{length, length-map}
 use Rattle.sets.specs.Decides.{unequal, is-true, is-false, dec-eq, dec-le}
-use Rattle.sets.specs.Lists.{_among_, upTo, among-map, among-upTo, length-upTo, map-upTo-suc}
+use Rattle.sets.specs.Lists.{_among_, upTo, among-map, among-upTo, length-upTo}
 use Rattle.semantics.specs.Definitions.Reading.{Reading, field, refused, _then_, require, times}
 use Rattle.semantics.specs.Definitions.Sheet.{byteAt, countAt}
 use Rattle.semantics.specs.Definitions.Calendar.{mostEntries, Entry, proper, entryAt, calendarOf}
 use Rattle.semantics.specs.Theorems.Reading.{field-same, require-passes, require-fails}
-use Rattle.semantics.specs.Theorems.Turns.{starts, goes-on, stops, is-done}
+use Rattle.semantics.specs.Theorems.Turns.{YieldBefore, stops-at, all-yield}
 use Rattle.semantics.specs.Theorems.InForce.{Proper, dec-proper, AllProper}
 use Rattle.semantics.specs.Theorems.CalendarCases.{entryPlace, entryBy, entriesOfBytes, Stands, ProperAt, GoodBefore, CountStands, NoCount, TooMany, CalendarRefuses, CalendarAccepts, calendar-decided}
 
@@ -21,10 +21,10 @@ module _ (c : List ℕ) (rules : ℕ) where
   abbrev judged : (i : ℕ) → Reading Entry
   judged i = require (proper rules (entryBy c i)) 11 (entryPlace i) (field (entryBy c i) (entryPlace i + 5))
 
-  entry-good : (i : ℕ) → Stands c i → ProperAt c rules i → entryAt c rules (entryPlace i) ≡ field (entryBy c i) (entryPlace (i + 1))
+  entry-good : (i : ℕ) → Stands c i → ProperAt c rules i → entryAt c rules (entryPlace i) ≡ field (entryBy c i) (entryPlace (suc i))
   unfolding entryAt
   entry-good i s p =
-      let z : entryPlace i + 5 ≡ entryPlace (i + 1) = omega arith in
+      let z : entryPlace i + 5 ≡ entryPlace (suc i) = omega arith in
       require-passes 1 (length c) (judged i) (is-true (dec-le (entryPlace i + 5) (length c)) s)
       ∙ require-passes 11 (entryPlace i) (field (entryBy c i) (entryPlace i + 5)) (is-true (dec-proper rules (entryBy c i)) p)
       ∙ ap (field (entryBy c i)) z
@@ -43,15 +43,8 @@ module _ (c : List ℕ) (rules : ℕ) where
   abbrev step : List Entry → ℕ → Reading Entry
   step _ = entryAt c rules
 
-  come-to : (n i : ℕ) → i ≤ n → GoodBefore c rules i → times n [] step 1 ≡ times (n - i) (entriesOfBytes c i) step (entryPlace i)
-  unfolding upTo
-  come-to n zero l g = starts step n 1
-  come-to n (suc i) l g =
-      let (s, p) = g i (omega arith) in
-      let z : i + 1 ≡ suc i = omega arith in
-      subst (λ k. times n [] step 1 ≡ times (n - k) (entriesOfBytes c (suc i)) step (entryPlace k)) z
-      (goes-on step n i (entryPlace i) (entriesOfBytes c i) (come-to n i (omega arith) (λ j h. g j (omega arith))) l (entry-good i s p)
-      ∙ ap (λ es. times (n - (i + 1)) es step (entryPlace (i + 1))) (sym (map-upTo-suc (entryBy c) i)))
+  good-yield : (i : ℕ) → GoodBefore c rules i → YieldBefore step (entryBy c) entryPlace i
+  good-yield i g j l = let (s, p) = g j l in entry-good j s p
 
   -- ---- the whole
   abbrev ending : List Entry → ℕ → Reading (List Entry)
@@ -93,14 +86,14 @@ module _ (c : List ℕ) (rules : ℕ) where
   stopped i number place counted l g e =
       after-count counted
       ∙ ap (λ r. r then ending)
-      (stops step (byteAt c 0) i (entryPlace i) (entriesOfBytes c i) (come-to (byteAt c 0) i (omega arith) g) l e)
+      (stops-at step (entryBy c) entryPlace (byteAt c 0) i l (good-yield i g) e)
 
   -- all entries are good
   all-read : CountStands c → GoodBefore c rules (byteAt c 0) → calendarOf c rules ≡ ending (entriesOfBytes c (byteAt c 0)) (entryPlace (byteAt c 0))
   all-read counted g =
       let n = byteAt c 0 in
       after-count counted
-      ∙ ap (λ r. r then ending) (is-done step n n (entryPlace n) (entriesOfBytes c n) (come-to n n (omega arith) g) (omega arith))
+      ∙ ap (λ r. r then ending) (all-yield step (entryBy c) entryPlace n (good-yield n g))
 
   refuses : (number place : ℕ) → CalendarRefuses c rules number place → calendarOf c rules ≡ refused number place
   refuses number place =

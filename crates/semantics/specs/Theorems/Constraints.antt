@@ -3,18 +3,17 @@
 use Prim.Native.Nat.{ℕ, _^_}
 use mathlib.Core.Path.{_≡_, sym, subst, _∙_}
 use mathlib.Core.Bool.{_&&_, _||_}
-use mathlib.Core.List.{List, [], _++_, append-nil}
+use mathlib.Core.List.{List, [], _++_, append-nil, append-assoc}
 use mathlib.Core.Logic.{_↔_, _⊎_, inl, inr, ⊎-elim}
 use Rattle.sets.specs.Decides.{Decides, dec-one, dec-iff, dec-and, dec-or}
 use Rattle.sets.specs.Lists.{_among_, some, keep, upTo, among-append, keep-keep, dec-some}
 use Rattle.sets.specs.Sets.{_∈_, _⊆_, ∅}
 use Rattle.sets.specs.Members.{∈-∅, ⊆-trans}
 use Rattle.semantics.specs.Definitions.Rules.{Rule}
-use Rattle.semantics.specs.Definitions.Setting.{Setting}
+use Rattle.semantics.specs.Definitions.Setting.{Setting, add}
 use Rattle.semantics.specs.Definitions.Stable.{isModel, stable, stableSets}
 use Rattle.semantics.specs.Definitions.Verdict.{beliefSets}
 use Rattle.semantics.specs.Definitions.Propagation.{Pair, sure, propagated, contradicted}
-use Rattle.semantics.specs.Definitions.Day.{add}
 use Rattle.semantics.specs.Theorems.Stable.{Satisfies, Model, ReducedModel, Stable, dec-model, dec-stable, reduced-model}
 use Rattle.semantics.specs.Theorems.Closure.{Sure, Closed, LeastClosed, dec-sure, propagated-is, least-only}
 use Rattle.semantics.specs.Theorems.Contradicted.{EmptyHead, pairOf, ContradictedBy, dec-contradicted-by}
@@ -22,6 +21,10 @@ use Rattle.semantics.specs.Theorems.Contradicted.{EmptyHead, pairOf, Con
 -- without constraints nothing is added
 pub add-none : (s : Setting) → add [] s ≡ s
 add-none s i = record { atoms = s .atoms; negations = s .negations; program = λ g. append-nil (s .program g) i }
+
+-- one list after the other
+pub add-add : (cs ds : List Rule) (s : Setting) → add ds (add cs s) ≡ add (cs ++ ds) s
+add-add cs ds s i = record { atoms = s .atoms; negations = s .negations; program = λ g. append-assoc (s .program g) cs ds i }
 
 -- rules with empty heads
 abbrev pub Constraints : List Rule → Type 0

@@ -119,7 +119,7 @@ day-bounded sheet ins outs = masks-bounded (ofSheet sheet) ins outs (sheet-bound
 -- 13, place 0, exactly where the sheet is accepted and the masks are bad
 pub thirteen-exactly : (sheet : List ℕ) (ins outs place : ℕ) → ofDay sheet ins outs ≡ refusal 13 place ↔ BadMasks (ofSheet sheet) ins outs 13 place
 thirteen-exactly sheet ins outs place = (
-  λ e. ⊎-elim (λ d. let (_, high) = refusal-number sheet 13 place (sheet-refused sheet 13 place .0 d) in absurd (omega arith)) (λ b. b)
+  λ e. ⊎-elim (λ d. ⊎-elim (λ l. absurd (omega arith)) (λ n. absurd (omega arith)) (refusal-number sheet 13 place (sheet-refused sheet 13 place .0 d))) (λ b. b)
       (masks-refused (ofSheet sheet) ins outs 13 place .0 e),
   λ b. masks-refused (ofSheet sheet) ins outs 13 place .1 (inr b),
 )

@@ -1,4 +1,4 @@
--- What a step yields where it yields a field, read off the bytes: where names, masks and rules lie. Assumes nothing.
+-- What a step yields where it yields a field, read off the bytes: where names, masks, rules and pairs lie. Assumes nothing.
 use Prim.Native.Nat.{ℕ, zero, suc, _+_, _*_, _^_, _<_, _≤_}
 use mathlib.Core.Path.{_≡_, refl, sym, ap, _∙_, subst}
 use mathlib.Core.Bool.{true, not}
@@ -13,12 +13,12 @@ use lib.Seq.{take-suc, getD-drop}
 use Rattle.sets.specs.Lists.{nowhere, all-snoc, some, sameList, null, upTo}
 use Rattle.sets.specs.Sets.{Below, AllBelow}
 use Rattle.semantics.specs.Definitions.Reading.{Reading, field, times}
-use Rattle.semantics.specs.Definitions.Sheet.{byteAt, wordAt, between, longestName, present, countAt, nameByte, nameByteAt, nameAt, maskAt, ruleAt}
-use Rattle.semantics.specs.Fields.{bytesFrom, nameFrom, afterName, namesFrom, afterNames, masksFrom, ruleFrom, rulesFrom}
+use Rattle.semantics.specs.Definitions.Sheet.{Opposites, goodPair, byteAt, wordAt, between, longestName, present, countAt, nameByte, nameByteAt, nameAt, maskAt, ruleAt, pairFrom, pairAt}
+use Rattle.semantics.specs.Fields.{bytesFrom, nameFrom, afterName, namesFrom, afterNames, masksFrom, ruleFrom, rulesFrom, pairsFrom}
 use Rattle.semantics.specs.Theorems.Reading.{then-field, require-field, field-same, times-field}
 
 module _ (s : List ℕ) where
-  -- ---- one name more, one byte, mask or rule more
+  -- ---- one name more, one byte, mask, rule or pair more
   pub namesFrom-more : (n at : ℕ) → namesFrom s (suc n) at ≡ namesFrom s n at ++ nameFrom s (afterNames s n at) ∷ []
   unfolding namesFrom afterNames
   namesFrom-more zero at = refl
@@ -49,6 +49,10 @@ module _ (s : List ℕ) where
   pub rulesFrom-more : (n at : ℕ) → rulesFrom s (suc n) at ≡ rulesFrom s n at ++ ruleFrom s (at + 16 * n) ∷ []
   unfolding upTo
   rulesFrom-more n at = map-append (λ i. ruleFrom s (at + 16 * i)) (upTo n) (n ∷ [])
+
+  pub pairsFrom-more : (n at : ℕ) → pairsFrom s (suc n) at ≡ pairsFrom s n at ++ pairFrom s (at + 2 * n) ∷ []
+  unfolding upTo
+  pairsFrom-more n at = map-append (λ i. pairFrom s (at + 2 * i)) (upTo n) (n ∷ [])
 
   -- ---- one step
   pub present-field : {A : Type 0} (at n : ℕ) (rest : Reading A) {v : A} {next : ℕ} → present s at n rest ≡ field v next
@@ -157,3 +161,27 @@ module _ (s : List ℕ) where
       each i vs p v next (evs, ep, f) d =
           let (ev, en, l) = rule-field atoms p next v d in
           (rw (ev, evs, ep) (sym (rulesFrom-more i at)), omega arith, all-snoc (Below atoms) vs v f l)
+
+  -- ---- a pair, the pairs
+  pub pair-field : (atoms : ℕ) (earlier : List Opposites) (at next : ℕ) (v : Opposites) → pairAt s atoms earlier at ≡ field v next
+      → (v ≡ pairFrom s at) × (next ≡ at + 2) × (next ≤ length s) × (goodPair atoms earlier v ≡ true)
+  unfolding pairAt
+  pair-field atoms earlier at next v e =
+      let (l, r) = present-field at 2 _ e in
+      let (t, d) = require-field (goodPair atoms earlier (pairFrom s at)) 15 at (field (pairFrom s at) (at + 2)) r in
+      let (ev, en) = field-same d in
+      (ev, en, omega arith, subst (λ p. goodPair atoms earlier p ≡ true) (sym ev) t)
+
+  pub pairs-field : (atoms n at next : ℕ) (v : List Opposites) → times n [] (pairAt s atoms) at ≡ field v next
+      → (v ≡ pairsFrom s n at) × (next ≡ at + 2 * n)
+  unfolding upTo
+  pairs-field atoms n at next v e = times-field (pairAt s atoms) Read each n at (refl, omega arith) e
+    where
+      Read : ℕ → List Opposites → ℕ → Type 0
+      Read i vs p = (vs ≡ pairsFrom s i at) × (p ≡ at + 2 * i)
+
+      each : (i : ℕ) (vs : List Opposites) (p : ℕ) (v : Opposites) (next : ℕ) → Read i vs p → pairAt s atoms vs p ≡ field v next
+          → Read (suc i) (vs ++ v ∷ []) next
+      each i vs p v next (evs, ep) d =
+          let (ev, en, _, _) = pair-field atoms vs p next v d in
+          (rw (ev, evs, ep) (sym (pairsFrom-more i at)), omega arith)

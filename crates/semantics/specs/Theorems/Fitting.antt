@@ -1,7 +1,6 @@
--- Names and rules that fit a sheet are read off the bytes that they have by the layout. Assumes nothing.
+-- Names, rules and pairs that fit a sheet are read off the bytes that they have by the layout. Assumes nothing.
 use Prim.Native.Nat.{ℕ, _+_, _*_, _/_, _%_, _^_, _≤_, _<_}
 use mathlib.Core.Path.{_≡_, refl, sym, ap, _∙_, subst}
-use mathlib.Core.Bool.{Bool, true}
 use mathlib.Core.List.{List, [], _∷_, _++_, append-nil, append-assoc}
 use native.Mathlib.Omega.{arith}
 use borrow.Author.Tests.{lt-ltb, eq-eqb}
@@ -11,21 +10,14 @@ use Rattle.sets.specs.Decides.{is-true, dec-not, dec-le}
 use Rattle.sets.specs.Lists.{_among_, here, among-middle, null, sameList, flat, flat-single, dec-some, dec-same}
 use Rattle.sets.specs.Pairwise.{Distinct, pairwise-across}
 use Rattle.sets.specs.Sets.{Below}
-use Rattle.semantics.specs.Definitions.Reading.{Reading, field, _then_, require, times}
-use Rattle.semantics.specs.Definitions.Sheet.{byteAt, wordAt, present, countAt, nameByteAt, nameAt, maskAt, ruleAt, sections, mostAtoms, mostRules, longestName}
+use Rattle.semantics.specs.Definitions.Reading.{Reading, field, require, times}
+use Rattle.semantics.specs.Definitions.Sheet.{Opposites, goodPair, byteAt, wordAt, present, countAt, nameByteAt, nameAt, maskAt, ruleAt, pairFrom, pairAt, front, pairsAt, sections, mostAtoms, mostRules, mostPairs, longestName}
 use Rattle.semantics.specs.Definitions.Setting.{k}
 use Rattle.semantics.specs.Definitions.Check.{mostNegations, setting, opened}
-use Rattle.semantics.specs.Theorems.Reading.{require-passes}
+use Rattle.semantics.specs.Theorems.Reading.{then-is, require-is}
 use Rattle.semantics.specs.Theorems.Names.{GoodName, Letter, Allowed, dec-between, dec-allowed}
-use Rattle.semantics.specs.Theorems.Layout.{nameBytes, maskBytes, ruleBytes, sheetBytes, sheetOf, Fits}
-
--- ---- steps that yield fields
-then-is : {A B : Type 0} {r : Reading A} {v : A} {next : ℕ} (rest : A → ℕ → Reading B) {x : Reading B} → r ≡ field v next → rest v next ≡ x
-    → (r then rest) ≡ x
-then-is rest e f = ap (λ r. r then rest) e ∙ f
-
-require-is : {A : Type 0} {b : Bool} (number place : ℕ) {rest x : Reading A} → b ≡ true → rest ≡ x → require b number place rest ≡ x
-require-is number place {rest} e f = require-passes number place rest e ∙ f
+use Rattle.semantics.specs.Theorems.Pairs.{GoodPair, dec-good-pair, Disjoint, disjoint-good}
+use Rattle.semantics.specs.Theorems.Layout.{nameBytes, maskBytes, ruleBytes, pairBytes, frontBytes, sheetBytes, sheetOf, FrontFits, Fits}
 
 -- ---- bytes
 allowed-at : (n earlier later : List ℕ) (b : ℕ) → GoodName n → earlier ++ b ∷ later ≡ n → Allowed (null earlier) b
@@ -39,7 +31,7 @@ length-masks (m ∷ r) = omega (arith, length-masks r)
 
 module _ (s : List ℕ) where
   -- from the place `at` the bytes bs stand in s, and then the others
-  abbrev Stands : (at : ℕ) (bs others : List ℕ) → Type 0
+  abbrev pub Stands : (at : ℕ) (bs others : List ℕ) → Type 0
   Stands at bs others = drop at s ≡ bs ++ others
 
   after : (at : ℕ) (bs others : List ℕ) → Stands at bs others → drop (at + length bs) s ≡ others
@@ -80,7 +72,7 @@ module _ (s : List ℕ) where
         → times (length whole) [] step at ≡ field whole (at + length (flat bytes whole))
     times-is at others = go-on whole [] at others refl
 
-  count-is : (limit at b : ℕ) (others : List ℕ) → Stands at (b ∷ []) others → b ≤ limit → countAt s limit at ≡ field b (at + 1)
+  pub count-is : (limit at b : ℕ) (others : List ℕ) → Stands at (b ∷ []) others → b ≤ limit → countAt s limit at ≡ field b (at + 1)
   unfolding countAt
   count-is limit at b others e l =
       present-is at (b ∷ []) others 1 e (omega arith) (omega arith)
@@ -132,8 +124,8 @@ module _ (s : List ℕ) where
       (times-is (λ _. maskAt s atoms) maskBytes r
       (λ earlier m later p o q. mask-is atoms m p o (below m (among-middle earlier m later q))) at others e))
 
-  -- ---- the whole
-  module _ (names rules : List (List ℕ)) (f : Fits names rules) where
+  -- ---- names and rules
+  module _ (names rules : List (List ℕ)) (f : FrontFits names rules) where
     names-are : (at : ℕ) (others : List ℕ) → Stands at (flat nameBytes names) others
         → times (length names) [] (nameAt s) at ≡ field names (at + length (flat nameBytes names))
     names-are =
@@ -148,26 +140,63 @@ module _ (s : List ℕ) where
         let m = among-middle earlier r later q in
         rule-is (length names) r p o (f .whole-rules r m) (f .masks-below r m))
 
-    opened-is : s ≡ sheetBytes names rules → opened s ≡ field (sheetOf names rules) (length s)
-    unfolding opened sections
-    opened-is e =
+    -- whatever follows them
+    pub front-is : (others : List ℕ) → s ≡ frontBytes names rules ++ others → front s ≡ field (sheetOf names rules []) (length (frontBytes names rules))
+    unfolding front
+    front-is others e =
         let n = length names in
         let m = length rules in
         let F = flat nameBytes names in
         let G = flat ruleBytes rules in
         let at = 1 + length F in
-        let h₁ = after 0 (n ∷ []) (F ++ m ∷ G) e in
-        let h₂ = after 1 F (m ∷ G) h₁ in
-        let h₃ = after at (m ∷ []) G h₂ in
-        let z : at + 1 + length G ≡ length s = omega (arith, ap length e, length-append F (m ∷ G)) in
-        then-is _
-        (then-is _ (count-is mostAtoms 0 n (F ++ m ∷ G) e (f .few-names))
-        (then-is _ (names-are 1 (m ∷ G) h₁)
-        (then-is _ (count-is mostRules at m G h₂ (f .few-rules))
-        (then-is _ (rules-are (at + 1) [] (h₃ ∙ sym (append-nil G)))
-        (require-is 6 (at + 1 + length G) (eq-eqb _ _ z) (ap (field (sheetOf names rules)) z))))))
-        (require-is 7 0 (is-true (dec-le (k (setting (sheetOf names rules))) mostNegations) (f .few-negations)) refl)
+        let M : List ℕ = m ∷ (G ++ others) in
+        let d : s ≡ n ∷ (F ++ M) = e ∙ append-assoc (n ∷ F) (m ∷ G) others in
+        let h₁ = after 0 (n ∷ []) (F ++ M) d in
+        let h₂ = after 1 F M h₁ in
+        let h₃ = after at (m ∷ []) (G ++ others) h₂ in
+        let z : at + 1 + length G ≡ length (frontBytes names rules) = omega (arith, length-append F (m ∷ G)) in
+        then-is _ (count-is mostAtoms 0 n (F ++ M) d (f .few-names))
+        (then-is _ (names-are 1 M h₁)
+        (then-is _ (count-is mostRules at m (G ++ others) h₂ (f .few-rules))
+        (then-is _ (rules-are (at + 1) others h₃) (ap (field (sheetOf names rules [])) z))))
 
-pub fits-accepted : (names rules : List (List ℕ)) → Fits names rules
-    → opened (sheetBytes names rules) ≡ field (sheetOf names rules) (length (sheetBytes names rules))
-fits-accepted names rules f = opened-is (sheetBytes names rules) names rules f refl
+  -- ---- pairs
+  pair-is : (atoms : ℕ) (earlier : List Opposites) (p : Opposites) (at : ℕ) (others : List ℕ) → GoodPair atoms earlier p → Stands at (pairBytes p) others
+      → pairAt s atoms earlier at ≡ field p (at + 2)
+  unfolding pairAt
+  pair-is atoms earlier p at others good e =
+      let first = byte-here at (p .first) (p .second ∷ others) e in
+      let second = byte-here (at + 1) (p .second) others (after at (p .first ∷ []) (p .second ∷ others) e) in
+      let there : pairFrom s at ≡ p = λ i. record { first = first i; second = second i } in
+      present-is at (pairBytes p) others 2 e (omega arith) (omega arith)
+      (ap (λ q. require (goodPair atoms earlier q) 15 at (field q (at + 2))) there ∙ require-is 15 at (is-true (dec-good-pair atoms earlier p) good) refl)
+
+  pairs-are : (atoms : ℕ) (pairs : List Opposites) → length pairs ≤ mostPairs → Disjoint atoms pairs → (at : ℕ) (others : List ℕ)
+      → Stands at (length pairs ∷ flat pairBytes pairs) others → pairsAt s atoms at ≡ field pairs (at + 1 + length (flat pairBytes pairs))
+  unfolding pairsAt
+  pairs-are atoms pairs few disjoint at others e =
+      then-is _ (count-is mostPairs at (length pairs) (flat pairBytes pairs ++ others) e few)
+      (times-is (pairAt s atoms) pairBytes pairs
+      (λ earlier p later q o h. pair-is atoms earlier p q o (disjoint-good atoms earlier p later (subst (Disjoint atoms) (sym h) disjoint)))
+      (at + 1) others (after at (length pairs ∷ []) (flat pairBytes pairs ++ others) e))
+
+  -- ---- the whole
+  module _ (names rules : List (List ℕ)) (pairs : List Opposites) (f : Fits names rules pairs) where
+    opened-is : s ≡ sheetBytes names rules pairs → opened s ≡ field (sheetOf names rules pairs) (length s)
+    unfolding opened sections
+    opened-is e =
+        let F = frontBytes names rules in
+        let P = length pairs ∷ flat pairBytes pairs in
+        let at = length F in
+        let first : at ≡ 0 + at = omega arith in
+        let stands : Stands at P [] = ap (λ p. drop p s) first ∙ after 0 F P e ∙ sym (append-nil P) in
+        let z : at + 1 + length (flat pairBytes pairs) ≡ length s = omega (arith, ap length e, length-append F P) in
+        then-is _
+        (then-is _ (front-is names rules (f .front-fits) P e)
+        (then-is _ (pairs-are (length names) pairs (f .few-pairs) (f .disjoint) at [] stands)
+        (require-is 6 (at + 1 + length (flat pairBytes pairs)) (eq-eqb _ _ z) (ap (field (sheetOf names rules pairs)) z))))
+        (require-is 7 0 (is-true (dec-le (k (setting (sheetOf names rules pairs))) mostNegations) (f .front-fits .few-negations)) refl)
+
+pub fits-accepted : (names rules : List (List ℕ)) (pairs : List Opposites) → Fits names rules pairs
+    → opened (sheetBytes names rules pairs) ≡ field (sheetOf names rules pairs) (length (sheetBytes names rules pairs))
+fits-accepted names rules pairs f = opened-is (sheetBytes names rules pairs) names rules pairs f refl

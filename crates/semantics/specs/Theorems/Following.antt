@@ -12,16 +12,18 @@ use lib.ListN.{length, length-append, List·getD-append}
 use Rattle.sets.specs.Decides.{unequal, is-false, dec-eq}
 use Rattle.sets.specs.Lists.{null, some, sameList}
 use Rattle.semantics.specs.Definitions.Reading.{Reading, field, refused, _then_, require, times}
-use Rattle.semantics.specs.Definitions.Sheet.{Sheet, byteAt, wordAt, between, present, countAt, nameByte, nameByteAt, nameAt, maskAt, ruleAt, sections, mostAtoms, mostRules, longestName}
+use Rattle.semantics.specs.Definitions.Sheet.{Opposites, Sheet, atoms, withPairs, goodPair, byteAt, wordAt, between, present, countAt, nameByte, nameByteAt, nameAt, maskAt, ruleAt, pairFrom, pairAt, front, pairsAt, sections, mostAtoms, mostRules, mostPairs, longestName, longestSheet}
 use Rattle.semantics.specs.Theorems.Reading.{require-field, field-same}
+use Rattle.semantics.specs.Theorems.Places.{SheetRefusal, Within, sections-within}
+use Rattle.semantics.specs.Theorems.Accepted.{sections-read}
 
 -- The bytes s, and more that follow.
 module _ (s more : List ℕ) where
-  abbrev longer : List ℕ
+  abbrev pub longer : List ℕ
   longer = s ++ more
 
   -- r, of s, and q, of the longer bytes: a field is the same, and ends within s; a refusal is the same, or s ended too soon
-  abbrev Same : {A : Type 0} → Reading A → Reading A → Type 0
+  abbrev pub Same : {A : Type 0} → Reading A → Reading A → Type 0
   Same (field v next) q = (next ≤ length s) × (q ≡ field v next)
   Same (refused n p) q = ((n ≡ 1) × (p ≡ length s)) ⊎ (q ≡ refused n p)
 
@@ -133,12 +135,36 @@ module _ (s more : List ℕ) where
       same-times (λ _. maskAt s atoms) (λ _. maskAt longer atoms) (λ n at. at + 2 * n ≤ length s) (λ n at p. omega arith) (λ n earlier at p. same-mask atoms at (omega arith))
       (mask-further atoms) 8 [] at (omega arith))
 
+  same-pair : (atoms : ℕ) (earlier : List Opposites) (at : ℕ) → Same (pairAt s atoms earlier at) (pairAt longer atoms earlier at)
+  unfolding pairAt
+  same-pair atoms earlier at =
+      let judged : Opposites → Reading Opposites = λ p. require (goodPair atoms earlier p) 15 at (field p (at + 2)) in
+      same-present at 2 (judged (pairFrom s at)) (judged (pairFrom longer at)) (λ l.
+      let pair : pairFrom longer at ≡ pairFrom s at = λ i. record { first = same-byte at (omega arith) i; second = same-byte (at + 1) (omega arith) i } in
+      subst (λ p. Same (judged (pairFrom s at)) (judged p)) (sym pair) (same-value (goodPair atoms earlier (pairFrom s at)) 15 at (pairFrom s at) (at + 2) l))
+
   -- ---- the sections
   within : {A : Type 0} (step step′ : List A → ℕ → Reading A) → ((earlier : List A) (at : ℕ) → Same (step earlier at) (step′ earlier at))
       → (n at : ℕ) → at ≤ length s → Same (times n [] step at) (times n [] step′ at)
   within step step′ each n at l =
       same-times step step′ (λ _ at. at ≤ length s) (λ _ at p. p) (λ _ earlier at _. each earlier at)
       (λ _ earlier at v next _ e. ends-within (step earlier at) (step′ earlier at) (each earlier at) v next e) n [] at l
+
+  -- names and rules, which both layouts begin with
+  pub same-front : Same (front s) (front longer)
+  unfolding front
+  same-front =
+      same-then (countAt s mostAtoms 0) (countAt longer mostAtoms 0) _ _ (same-count mostAtoms 0) (λ n at l.
+      same-then (times n [] (nameAt s) at) (times n [] (nameAt longer) at) _ _ (within (nameAt s) (nameAt longer) same-name n at l) (λ names at l.
+      same-then (countAt s mostRules at) (countAt longer mostRules at) _ _ (same-count mostRules at) (λ m rulesAt l.
+      same-then (times m [] (λ _. ruleAt s n) rulesAt) (times m [] (λ _. ruleAt longer n) rulesAt) _ _
+      (within (λ _. ruleAt s n) (λ _. ruleAt longer n) (λ _. same-rule n) m rulesAt l) (λ rules end l. (l, refl)))))
+
+  same-pairs : (atoms at : ℕ) → Same (pairsAt s atoms at) (pairsAt longer atoms at)
+  unfolding pairsAt
+  same-pairs atoms at =
+      same-then (countAt s mostPairs at) (countAt longer mostPairs at) _ _ (same-count mostPairs at) (λ n at l.
+      within (pairAt s atoms) (pairAt longer atoms) (same-pair atoms) n at l)
 
   module _ (some-more : 0 < length more) where
     -- r, of s, and q, of the longer bytes, once all is read: what is read whole is followed by extra bytes
@@ -165,12 +191,9 @@ module _ (s more : List ℕ) where
     followed : Followed (sections s) (sections longer)
     unfolding sections
     followed =
-        followed-then (countAt s mostAtoms 0) (countAt longer mostAtoms 0) _ _ (same-count mostAtoms 0) (λ n at l.
-        followed-then (times n [] (nameAt s) at) (times n [] (nameAt longer) at) _ _ (within (nameAt s) (nameAt longer) same-name n at l) (λ names at l.
-        followed-then (countAt s mostRules at) (countAt longer mostRules at) _ _ (same-count mostRules at) (λ m rulesAt l.
-        followed-then (times m [] (λ _. ruleAt s n) rulesAt) (times m [] (λ _. ruleAt longer n) rulesAt) _ _
-        (within (λ _. ruleAt s n) (λ _. ruleAt longer n) (λ _. same-rule n) m rulesAt l) (λ rules end l.
-        at-end (record { names = names; rules = rules; rulesAt = rulesAt }) end l))))
+        followed-then (front s) (front longer) _ _ same-front (λ x at l.
+        followed-then (pairsAt s (atoms x) at) (pairsAt longer (atoms x) at) _ _ (same-pairs (atoms x) at) (λ pairs end l.
+        at-end (withPairs x pairs) end l))
 
     -- a refusal other than 1 stays, whatever follows
     pub still-refused : (number place : ℕ) → sections s ≡ refused number place → (number ≡ 1 → ⊥) → sections longer ≡ refused number place
@@ -188,3 +211,11 @@ module _ (s more : List ℕ) where
         go : (r : Reading Sheet) → Followed r (sections longer) → r ≡ refused 1 (length s)
         go (field y m) q = let d = sym e ∙ q in unequal cc
         go (refused n p) q = ⊎-elim (λ h. ap₂ refused (h .0) (h .1)) (λ q. let d = sym e ∙ q in unequal cc) q
+
+    -- more bytes than the longest sheet has: what follows them changes nothing
+    pub long-same : longestSheet < length s → sections longer ≡ sections s
+    long-same long = go (sections s) refl followed (sections-within s)
+      where
+        go : (r : Reading Sheet) → sections s ≡ r → Followed r (sections longer) → Within (SheetRefusal 6) longestSheet r → sections longer ≡ r
+        go (field x end) e q w = absurd (omega (arith, sections-read s x end e .ends))
+        go (refused n p) e q w = ⊎-elim (λ h. absurd (omega (arith, h .1, w .0))) (λ d. d) q

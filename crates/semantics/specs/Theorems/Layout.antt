@@ -1,4 +1,4 @@
--- The layout of a sheet, said without reading: its bytes, and which names and rules fit; those of an accepted sheet do. Assumes nothing.
+-- The layout of a sheet, said without reading: its bytes, and which names, rules and pairs fit; those of an accepted sheet do. Assumes nothing.
 use Prim.Native.Nat.{ℕ, _+_, _*_, _/_, _%_, _≤_, _<_}
 use mathlib.Core.Path.{_≡_, sym, ap, subst}
 use mathlib.Core.List.{List, [], _∷_, _++_, map}
@@ -10,13 +10,14 @@ use Rattle.sets.specs.Lists.{_among_, nowhere, all-snoc, null, sameList, flat, 
 use Rattle.sets.specs.Pairwise.{Distinct, pairwise-snoc}
 use Rattle.sets.specs.Sets.{AllBelow}
 use Rattle.semantics.specs.Definitions.Reading.{field, times}
-use Rattle.semantics.specs.Definitions.Sheet.{Sheet, ruleOfMasks, byteAt, nameByte, nameByteAt, nameAt, mostAtoms, mostRules, longestName}
+use Rattle.semantics.specs.Definitions.Sheet.{Opposites, Sheet, ruleOfMasks, byteAt, nameByte, nameByteAt, nameAt, mostAtoms, mostRules, mostPairs, longestName}
 use Rattle.semantics.specs.Definitions.Setting.{settingOf, k}
 use Rattle.semantics.specs.Definitions.Check.{mostNegations, opened}
 use Rattle.semantics.specs.Fields.{ruleFrom}
 use Rattle.semantics.specs.Theorems.Reading.{require-field, field-same, times-field, times-length}
 use Rattle.semantics.specs.Theorems.Names.{GoodName, NameByte, Letter, Allowed, dec-between, dec-allowed}
 use Rattle.semantics.specs.Theorems.Fields.{name-read, rules-field}
+use Rattle.semantics.specs.Theorems.Pairs.{Disjoint, pairs-disjoint}
 use Rattle.semantics.specs.Theorems.Accepted.{accepted-read}
 
 -- every number is one byte's
@@ -41,15 +42,24 @@ maskBytes m = m % 256 ∷ m / 256 ∷ []
 abbrev pub ruleBytes : List ℕ → List ℕ
 ruleBytes r = flat maskBytes r
 
--- "Sections in a fixed order, each after its count." "Nothing follows."
-abbrev pub sheetBytes : (names rules : List (List ℕ)) → List ℕ
-sheetBytes names rules = length names ∷ flat nameBytes names ++ length rules ∷ flat ruleBytes rules
+-- K7: "two atom numbers per pair"
+abbrev pub pairBytes : Opposites → List ℕ
+pairBytes p = p .first ∷ p .second ∷ []
 
--- what a sheet says with these names and rules: before the rules stand a count, the names and a count
-abbrev pub sheetOf : (names rules : List (List ℕ)) → Sheet
-sheetOf names rules = record { names = names; rules = rules; rulesAt = 1 + length (flat nameBytes names) + 1 }
+-- "Sections in a fixed order, each after its count." "Nothing follows.": the sheets of document 01, and the front of those of document 02
+abbrev pub frontBytes : (names rules : List (List ℕ)) → List ℕ
+frontBytes names rules = length names ∷ flat nameBytes names ++ length rules ∷ flat ruleBytes rules
 
-pub record Fits (names rules : List (List ℕ)) : Type 0 where
+-- K7: "The sheet gets a third section"
+abbrev pub sheetBytes : (names rules : List (List ℕ)) (pairs : List Opposites) → List ℕ
+sheetBytes names rules pairs = frontBytes names rules ++ length pairs ∷ flat pairBytes pairs
+
+-- what a sheet says with these names, rules and pairs: before the rules stand a count, the names and a count
+abbrev pub sheetOf : (names rules : List (List ℕ)) (pairs : List Opposites) → Sheet
+sheetOf names rules pairs = record { names = names; rules = rules; pairs = pairs; rulesAt = 1 + length (flat nameBytes names) + 1 }
+
+-- names and rules that fit, of the sheets of both documents
+pub record FrontFits (names rules : List (List ℕ)) : Type 0 where
   -- "the number of atoms, 0 to 15"
   pub few-names : length names ≤ mostAtoms
   pub good-names : (n : List ℕ) → n among names → GoodName n
@@ -62,6 +72,14 @@ pub record Fits (names rules : List (List ℕ)) : Type 0 where
   pub masks-below : AllBelow (length names) rules
   -- "k of 12 passes, 13 gives 7."
   pub few-negations : k (settingOf (length names) (map ruleOfMasks rules)) ≤ mostNegations
+
+-- names, rules and pairs that fit
+pub record Fits (names rules : List (List ℕ)) (pairs : List Opposites) : Type 0 where
+  pub front-fits : FrontFits names rules
+  -- "a count byte 0 to 7"
+  pub few-pairs : length pairs ≤ mostPairs
+  -- no "atom number not below the atom count, one atom twice in a pair or an atom of an earlier pair"
+  pub disjoint : Disjoint (length names) pairs
 
 -- the first bytes of a name
 record Begun (bs : List ℕ) : Type 0 where
@@ -97,20 +115,25 @@ module _ (s : List ℕ) where
       (λ i vs p v n h q. let (g, new) = name-good vs p n v q in (all-snoc GoodName vs v (h .0) g, pairwise-snoc _ vs v (h .1) (λ y m e. new y m (sym e))))
       n at ((λ n m. absurd (nowhere m)), tt) e
 
-  pub accepted-fits : (x : Sheet) (end : ℕ) → opened s ≡ field x end → Fits (x .names) (x .rules)
+  pub accepted-fits : (x : Sheet) (end : ℕ) → opened s ≡ field x end → Fits (x .names) (x .rules) (x .pairs)
   unfolding upTo
   accepted-fits x end e =
       let (r, few) = accepted-read s x end e in
-      let (good, differ) = names-good (length (x .names)) 1 (r .countedAt) (x .names) (r .names-read) in
-      let (lie, _, below) = rules-field s (length (x .names)) (length (x .rules)) (x .rulesAt) end (x .rules) (r .rules-read) in
+      let f = r .front-read in
+      let (good, differ) = names-good (length (x .names)) 1 (f .countedAt) (x .names) (f .names-read) in
+      let (lie, _, below) = rules-field s (length (x .names)) (length (x .rules)) (x .rulesAt) (r .pairsCounted) (x .rules) (f .rules-read) in
       record {
-        few-names = r .few-atoms;
-        good-names = good;
-        distinct = differ;
-        few-rules = r .few-rules;
-        whole-rules = λ l m.
-            let (i, _, q) = among-map (λ i. ruleFrom s (x .rulesAt + 16 * i)) (upTo (length (x .rules))) .0 (subst (λ z. l among z) lie m) in
-            ap length q;
-        masks-below = below;
-        few-negations = few;
+        front-fits = record {
+          few-names = f .few-atoms;
+          good-names = good;
+          distinct = differ;
+          few-rules = f .few-rules;
+          whole-rules = λ l m.
+              let (i, _, q) = among-map (λ i. ruleFrom s (x .rulesAt + 16 * i)) (upTo (length (x .rules))) .0 (subst (λ z. l among z) lie m) in
+              ap length q;
+          masks-below = below;
+          few-negations = few;
+        };
+        few-pairs = r .few-pairs;
+        disjoint = pairs-disjoint s (length (x .names)) (length (x .pairs)) (r .pairsCounted + 1) end (x .pairs) (r .pairs-read);
       }

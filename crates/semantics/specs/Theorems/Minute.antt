@@ -80,33 +80,39 @@ module _ (entries : List Entry) (minute : ℕ) (x : Sheet) where
   -- of an accepted sheet
   module _ (s : List ℕ) (end : ℕ) (e : opened s ≡ field x end) where
     pub minute-below : AllBelow (atoms x) (atMinute entries minute x .rules)
-    minute-below r m = accepted-fits s x end e .masks-below r (minute-among r m)
+    minute-below r m = accepted-fits s x end e .front-fits .masks-below r (minute-among r m)
 
-    pub minute-fits : Fits (x .names) (atMinute entries minute x .rules)
+    pub minute-fits : Fits (x .names) (atMinute entries minute x .rules) (x .pairs)
     minute-fits =
-        let f = accepted-fits s x end e in
+        let fits = accepted-fits s x end e in
+        let f = fits .front-fits in
         let few = f .few-rules in
         let short = f .few-negations in
         record {
-          few-names = f .few-names;
-          good-names = f .good-names;
-          distinct = f .distinct;
-          few-rules = omega (arith, minute-fewer);
-          whole-rules = λ r m. f .whole-rules r (minute-among r m);
-          masks-below = minute-below;
-          few-negations = omega (arith, minute-negations);
+          front-fits = record {
+            few-names = f .few-names;
+            good-names = f .good-names;
+            distinct = f .distinct;
+            few-rules = omega (arith, minute-fewer);
+            whole-rules = λ r m. f .whole-rules r (minute-among r m);
+            masks-below = minute-below;
+            few-negations = omega (arith, minute-negations);
+          };
+          few-pairs = fits .few-pairs;
+          disjoint = fits .disjoint;
         }
 
     -- the bytes that the layout gives are a sheet, and it has the setting
-    pub minute-bytes : ofSheet (sheetBytes (x .names) (atMinute entries minute x .rules)) ≡ accepted (setting (atMinute entries minute x))
+    pub minute-bytes : ofSheet (sheetBytes (x .names) (atMinute entries minute x .rules) (x .pairs)) ≡ accepted (setting (atMinute entries minute x))
     minute-bytes =
         let kept = atMinute entries minute x .rules in
-        sheet-accepted (sheetBytes (x .names) kept) (setting (sheetOf (x .names) kept)) .1
-        (sheetOf (x .names) kept, length (sheetBytes (x .names) kept), fits-accepted (x .names) kept minute-fits, refl)
+        let says = sheetOf (x .names) kept (x .pairs) in
+        let bytes = sheetBytes (x .names) kept (x .pairs) in
+        sheet-accepted bytes (setting says) .1 (says, length bytes, fits-accepted (x .names) kept (x .pairs) minute-fits, refl)
 
 -- ---- the whole sheet, and the same sheet
 abbrev withRules : Sheet → List (List ℕ) → Sheet
-withRules x rules = record { names = x .names; rules = rules; rulesAt = x .rulesAt }
+withRules x rules = record { names = x .names; rules = rules; pairs = x .pairs; rulesAt = x .rulesAt }
 
 -- "A rule with no entry is always in force": a calendar without entries leaves the sheet as it is
 pub none-closed : (minute : ℕ) (x : Sheet) → atMinute [] minute x ≡ x

@@ -3,7 +3,7 @@
 use Prim.Native.Nat.{ℕ, _^_, _≤_}
 use mathlib.Core.Path.{_≡_, refl, sym, ap, _∙_, subst}
 use mathlib.Core.Bool.{true, _&&_}
-use mathlib.Core.List.{List}
+use mathlib.Core.List.{List, map}
 use mathlib.Core.Logic.{_↔_, ⊎-elim}
 use native.Mathlib.Omega.{arith}
 use lib.Count.{ones}
@@ -17,18 +17,19 @@ use Rattle.semantics.specs.Definitions.Rules.{Rule, EpistemicRule}
 use Rattle.semantics.specs.Definitions.Reading.{field}
 use Rattle.semantics.specs.Definitions.Sheet.{Sheet, ruleOfMasks, epistemicRules}
 use Rattle.semantics.specs.Definitions.Reduct.{holdsBy}
-use Rattle.semantics.specs.Definitions.Setting.{Setting}
-use Rattle.semantics.specs.Definitions.Check.{setting, opened, ofSheet}
+use Rattle.semantics.specs.Definitions.Setting.{Setting, add}
+use Rattle.semantics.specs.Definitions.Check.{opposed, unpaired, setting, opened, ofSheet}
 use Rattle.semantics.specs.Definitions.Returned.{Returned, accepted}
 use Rattle.semantics.specs.Definitions.Stable.{negationsHold, positive, reductAt, stable, stableSets}
 use Rattle.semantics.specs.Definitions.Verdict.{beliefSets}
-use Rattle.semantics.specs.Definitions.Day.{add, dayConstraints, under, allowed, underMasks, ofDay}
+use Rattle.semantics.specs.Definitions.Day.{dayConstraints, under, allowed, underMasks, ofDay}
 use Rattle.semantics.specs.Definitions.Calendar.{Entry, atMinute, ofMinute}
 use Rattle.semantics.specs.Definitions.LeastModel.{singleHeads, leastModel, constraintsOf, byLeastModel}
 use Rattle.semantics.specs.Theorems.Reduct.{among-reduct, rule-reduces}
 use Rattle.semantics.specs.Theorems.Stable.{NegationsHold, Satisfies, Model, Stable, dec-negations, dec-model, dec-stable, among-positive}
 use Rattle.semantics.specs.Theorems.Constraints.{Constraints}
 use Rattle.semantics.specs.Theorems.Day.{day-empty, stable-under}
+use Rattle.semantics.specs.Theorems.Opposites.{opposed-empty}
 use Rattle.semantics.specs.Theorems.Source.{sheet-accepted}
 use Rattle.semantics.specs.Theorems.DaySource.{masks-accepted}
 use Rattle.semantics.specs.Theorems.Minute.{minute-among}
@@ -179,12 +180,16 @@ dec-single-heads x = dec-every _ _ (epistemicRules x) (λ r _. dec-le (size (r .
 
 module _ (x : Sheet) (single : singleHeads x ≡ true) where
   -- the reduct keeps heads
-  pub sheet-single : SingleHeadSetting (setting x)
-  sheet-single g q m =
-      let s = setting x in
+  rules-single : SingleHeadSetting (unpaired x)
+  rules-single g q m =
+      let s = unpaired x in
       let (r, k, _, e) = among-reduct (s .atoms) (holdsBy (s .negations) g) (epistemicRules x) .0 m in
       let head : q .head ≡ r .objective .head = ap (λ z. z .head) e ∙ rule-reduces (s .atoms) (holdsBy (s .negations) g) r .head in
       subst (λ h. size h ≤ 1) (sym head) (dec-single-heads x .yes single r k)
+
+  -- and the pairs have none
+  pub sheet-single : SingleHeadSetting (setting x)
+  sheet-single = add-single (unpaired x) (map opposed (x .pairs)) (opposed-empty (x .pairs)) rules-single
 
   -- "shown equal to the subset search for every such sheet, guess and set"
   pub for-every-guess-and-set : (g i : ℕ) → byLeastModel (setting x .program g) i ≡ stable (setting x .program g) i

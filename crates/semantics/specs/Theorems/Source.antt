@@ -101,12 +101,12 @@ pub sheet-bounded : (sheet : List ℕ) → Bounded (ofSheet sheet)
 sheet-bounded sheet = record {
   few-atoms = λ s e.
       let (x, end, d, same) = sheet-accepted sheet s .0 e in
-      subst (λ z. z .atoms ≤ mostAtoms) (sym same) (accepted-read sheet x end d .0 .few-atoms);
+      subst (λ z. z .atoms ≤ mostAtoms) (sym same) (accepted-read sheet x end d .0 .front-read .few-atoms);
   few-negations = λ s e.
       let (x, end, d, same) = sheet-accepted sheet s .0 e in
       subst (λ z. k z ≤ mostNegations) (sym same) (accepted-read sheet x end d .1);
   told-apart = λ number place e.
       let d = sheet-refused sheet number place .0 e in
       let small = refusal-place sheet number place d in
-      (refusal-number sheet number place d .0, omega arith);
+      (⊎-elim (λ l. l .0) (λ e. omega arith) (refusal-number sheet number place d), omega arith);
 }

@@ -24,10 +24,10 @@ pub masks-more : (z m m′ : ℕ) (rs : List (List ℕ)) (r : List ℕ)
 masks-more z m m′ rs r = sym (ap (foldl _∪_ z) (flat-snoc (λ r. getD r m 0 ∷ getD r m′ 0 ∷ []) rs r) ∙ foldl-append _∪_ z (masksOf m m′ rs) (getD r m 0 ∷ getD r m′ 0 ∷ []))
 
 -- "some rule has a in mask" m or m′
-abbrev InMasks : (m m′ : ℕ) → List (List ℕ) → ℕ → Type 0
+abbrev pub InMasks : (m m′ : ℕ) → List (List ℕ) → ℕ → Type 0
 InMasks m m′ rules a = (r : List ℕ) × (r among rules) × ((a ∈ getD r m 0) ⊎ (a ∈ getD r m′ 0))
 
-∈-masks : (m m′ : ℕ) (rules : List (List ℕ)) (a : ℕ) → a ∈ ⋃ (masksOf m m′ rules) ↔ InMasks m m′ rules a
+pub ∈-masks : (m m′ : ℕ) (rules : List (List ℕ)) (a : ℕ) → a ∈ ⋃ (masksOf m m′ rules) ↔ InMasks m m′ rules a
 ∈-masks m m′ rules a = (
   λ q. let (x, i, h) = ∈-⋃ a (masksOf m m′ rules) .0 q in
       let (r, j, o) = among-flat pair rules .0 i in
