@@ -30,7 +30,7 @@ pub fn list(sheet: &[u8]) -> Result<Listing, Refusal> {
 /// use budkarv::{Atoms, Day};
 ///
 /// // Atoms a and b; a or b.
-/// let sheet = [2, 1, b'a', 1, b'b', 1, 3, 0, 0, 0, 0, 0, 0, 0, 0, 0, 0, 0, 0, 0, 0, 0];
+/// let sheet = [2, 1, b'a', 1, b'b', 1, 3, 0, 0, 0, 0, 0, 0, 0, 0, 0, 0, 0, 0, 0, 0, 0, 0];
 /// let either = budkarv::list(&sheet)?;
 /// assert_eq!((either.views[0].known.bits(), either.views[0].sets), (0, 2));
 ///

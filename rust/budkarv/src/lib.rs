@@ -9,7 +9,8 @@
 //! let sheet = [
 //!     2, 1, b'a', 1, b'b', 2, //
 //!     1, 0, 0, 0, 0, 0, 0, 0, 0, 0, 2, 0, 0, 0, 0, 0, //
-//!     2, 0, 0, 0, 0, 0, 0, 0, 0, 0, 1, 0, 0, 0, 0, 0,
+//!     2, 0, 0, 0, 0, 0, 0, 0, 0, 0, 1, 0, 0, 0, 0, 0, //
+//!     0, // no pairs of opposites
 //! ];
 //! let listing = budkarv::list(&sheet)?;
 //! assert_eq!(listing.counts.views, 2);

@@ -1,19 +1,22 @@
-//! Damaged sheets: bytes changed, cut off or added, counts and masks too large, names made equal. Damaged calendars.
+//! Damaged sheets: bytes changed, cut off or added, counts, masks and atom numbers too large, names and atoms of pairs
+//! made equal. Damaged calendars.
 
+use crate::pairs::random_pairs;
 use crate::random::Random;
 use crate::sheets::random_names;
-use crate::write::{calendar, sheet, Entry, K, M};
+use crate::write::{calendar, sheet_with, Entry, K, M};
 
 /// A sheet with one kind of damage; some of them are still accepted.
 pub fn damaged(random: &mut Random, sheet: &[u8]) -> Vec<u8> {
     let mut bytes = sheet.to_vec();
-    match random.below(7) {
+    match random.below(8) {
         0 => bytes.truncate(random.below(bytes.len() + 1)),
         1 => extend(random, &mut bytes),
         2 => change(random, &mut bytes),
         3 => bytes[0] = random.pick(&[bytes[0] + 1, bytes[0].wrapping_sub(1), 15, 16, 255]),
         4 => rule_byte(random, &mut bytes),
         5 => names(random, &mut bytes),
+        6 => pair_byte(random, &mut bytes),
         _ => (0..random.between(2, 5)).for_each(|_| change(random, &mut bytes)),
     }
     bytes
@@ -45,15 +48,40 @@ fn rule_count_at(bytes: &[u8]) -> usize {
     after_names(bytes, bytes[0])
 }
 
+/// Where the pair count stands in a sheet that begins with whole names and rules.
+fn pair_count_at(bytes: &[u8]) -> usize {
+    let rules = rule_count_at(bytes);
+    rules + 1 + 16 * usize::from(bytes[rules])
+}
+
 /// A change of the rule count or of a byte of a mask.
 fn rule_byte(random: &mut Random, bytes: &mut [u8]) {
-    let count = rule_count_at(bytes);
+    let (count, end) = (rule_count_at(bytes), pair_count_at(bytes));
     let old = bytes[count];
-    if random.chance(30) || bytes.len() == count + 1 {
+    if random.chance(30) || end == count + 1 {
         bytes[count] = random.pick(&[old + 1, old.wrapping_sub(1), 64, 65, 255]);
     } else {
-        let place = random.between(count + 1, bytes.len() - 1);
+        let place = random.between(count + 1, end - 1);
         bytes[place] |= 1 << random.below(8);
+    }
+}
+
+/// A cut in the pairs, another pair count, a pair more, or another atom in a pair.
+fn pair_byte(random: &mut Random, bytes: &mut Vec<u8>) {
+    let (atoms, count) = (bytes[0], pair_count_at(bytes));
+    let old = bytes[count];
+    let atom = |random: &mut Random| random.pick(&[0, atoms / 2, atoms.wrapping_sub(1), atoms, atoms + 1, 255]);
+    match random.below(4) {
+        0 => bytes.truncate(random.between(count, bytes.len() - 1)),
+        1 => bytes[count] = random.pick(&[old + 1, old.wrapping_sub(1), 7, 8, 255]),
+        2 if old > 0 => {
+            let place = random.between(count + 1, bytes.len() - 1);
+            bytes[place] = atom(random);
+        }
+        _ => {
+            bytes[count] += 1;
+            bytes.extend([atom(random), atom(random)]);
+        }
     }
 }
 
@@ -83,15 +111,16 @@ pub fn too_many_negations(random: &mut Random) -> Vec<u8> {
     let mut rules = vec![[0; 8]; random.between(1, 6)];
     let mut left = random.between(13, 2 * atoms);
     for atom in 0..atoms {
-        for pair in [K, M] {
+        for mask in [K, M] {
             if left > 0 {
                 let rule = random.below(rules.len());
-                rules[rule][pair + random.below(2)] |= 1 << atom;
+                rules[rule][mask + random.below(2)] |= 1 << atom;
                 left -= 1;
             }
         }
     }
-    sheet(&random_names(random, atoms, 12), &rules)
+    let pairs = random_pairs(random, atoms);
+    sheet_with(&random_names(random, atoms, 12), &rules, &pairs)
 }
 
 /// A calendar of these entries with one kind of damage, beside a sheet of so many rules; some are still accepted.

@@ -1,10 +1,11 @@
 //! Random sheets made of parts whose sets of atoms are judged in different ways: rings, chains, cycles of "not" and
 //! other rules with at most one head atom; disjunctions alone, in rings, and of atoms that other rules give too.
 
+use crate::pairs::random_pairs;
 use crate::random::Random;
 use crate::sheets::{negations, subjective};
 use crate::solver::sheet::Rule;
-use crate::write::{lettered, rule, HEAD, NOT, NOT_NOT, PLAIN};
+use crate::write::{lettered_with, rule, HEAD, NOT, NOT_NOT, PLAIN};
 
 /// The heads of a sheet: each of at most one atom; many of two or three; both mixed.
 #[derive(Clone, Copy, Debug, PartialEq, Eq)]
@@ -21,8 +22,8 @@ const SINGLE: [Part; 9] = [fact, ring, ring_with_entry, ring_with_entry, chain, 
 const DISJUNCTIVE: [Part; 8] =
     [disjunction, disjunction, ring_with_head, ring_with_head, given, saturated, choice, constraint];
 
-/// A sheet of 3 to 10 atoms, at most 20 rules, mostly up to 12, and at most so many negations. Its rules stand in the
-/// order of their parts, in the reverse of it or in any.
+/// A sheet of 3 to 10 atoms, at most 20 rules, mostly up to 12, at most so many negations, and pairs. Its rules stand
+/// in the order of their parts, in the reverse of it or in any.
 pub fn sheet_of_parts(random: &mut Random, family: Family, most: usize) -> Vec<u8> {
     let parts = match family {
         Family::Single => SINGLE.to_vec(),
@@ -44,7 +45,7 @@ pub fn sheet_of_parts(random: &mut Random, family: Family, most: usize) -> Vec<u
         let (mask, atom) = subjective(random, &pool);
         rule[mask] |= u16::from(random.chance(25)) << atom;
     }
-    lettered(atoms, &rules)
+    lettered_with(atoms, &rules, &random_pairs(random, atoms))
 }
 
 /// So many of these, in any order.

@@ -1,7 +1,7 @@
 //! Named sheets, most of them at the limits, some of them under day masks: for the benchmark and for the comparison of
 //! large listings.
 
-use crate::cases::sheets::{free, one_known, pairs};
+use crate::cases::sheets::{free, one_known, twos, SEVEN};
 use crate::known::kiln;
 use crate::random::{Random, SEED};
 use crate::solver::sheet::Rule;
@@ -13,7 +13,7 @@ pub fn named() -> Vec<(&'static str, Vec<u8>)> {
         ("kiln", kiln()),
         ("nearly all ruled", lettered(15, &all_ruled())),
         ("all but one covered", lettered(15, &each(12, |a| rule(&[(HEAD, a), (K, a)])))),
-        ("64 views, pairs", pairs()),
+        ("64 views, twos", twos()),
         ("81 views, triples", one_known(&["abc", "def", "ghi", "jkl"])),
         ("single heads", lettered(15, &random_rules(1, 1, 63, 0x3F))),
         ("disjunctions of two", lettered(15, &random_rules(1, 2, 63, 0x3F))),
@@ -26,6 +26,7 @@ pub fn named() -> Vec<(&'static str, Vec<u8>)> {
         ("14 choices, p <- not p", lettered(15, &choices_and_odd_loop())),
         ("loops through ten doors", lettered(15, &doors())),
         ("possible or not", lettered(15, &each(12, |a| rule(&[(HEAD, a), (NOT_M, a << 3)])))),
+        ("64 views, opposites", lettered_with(15, &opposites(), &SEVEN)),
     ]
 }
 
@@ -45,6 +46,13 @@ pub fn masked() -> Vec<(&'static str, Vec<u8>, [u16; 2])> {
 /// One rule for each of the first atoms.
 fn each(count: usize, rule: impl Fn(u16) -> Rule) -> Vec<Rule> {
     (0..count).map(|atom| rule(1 << atom)).collect()
+}
+
+/// Twelve atoms, each from M of itself, and three choices: with seven pairs, most guesses are contradicted by a pair.
+fn opposites() -> Vec<Rule> {
+    let mut rules = each(12, |a| rule(&[(HEAD, a), (M, a)]));
+    rules.extend(choices(12..15));
+    rules
 }
 
 /// Twelve facts, each to be known, and three choices: every guess but one is contradicted.

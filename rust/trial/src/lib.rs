@@ -2,8 +2,8 @@
 //!
 //! `solver` answers the calls of documents 01 and 02 by another method than the proved ones, and shares no code with
 //! them. `cases` are the requests that are stored for the program `calls`, many with answers by hand. `growth` and `ways`
-//! say of a set of atoms what makes it hard to judge. The other modules make sheets, calendars, day masks and requests,
-//! run the programs and take their times.
+//! say of a set of atoms what makes it hard to judge, `readings` how pairs can be read wrongly. The other modules make
+//! sheets, pairs, calendars, day masks and requests, run the programs and take their times.
 
 pub mod calendars;
 pub mod cases;
@@ -13,8 +13,10 @@ pub mod heads;
 pub mod known;
 pub mod large;
 pub mod masks;
+pub mod pairs;
 pub mod programs;
 pub mod random;
+pub mod readings;
 pub mod request;
 pub mod sheets;
 pub mod solver;

@@ -1,9 +1,10 @@
 //! Random sheets of several shapes, all of them accepted.
 
+use crate::pairs::random_pairs;
 use crate::random::Random;
 use crate::solver::guess::Negation;
 use crate::solver::sheet::Rule;
-use crate::write::{sheet, HEAD, K, M, NOT, NOT_K, NOT_M, NOT_NOT, PLAIN};
+use crate::write::{sheet_with, HEAD, K, M, NOT, NOT_K, NOT_M, NOT_NOT, PLAIN};
 
 /// What heads most rules have.
 #[derive(Clone, Copy, Debug)]
@@ -16,7 +17,8 @@ pub enum Heads {
 
 pub const HEADS: [Heads; 4] = [Heads::Single, Heads::Disjunctions, Heads::Choices, Heads::Mixed];
 
-/// Bounds of a random sheet: atoms, rules and negations, and how many body literals a rule has at most.
+/// Bounds of a random sheet: atoms, rules and negations, and how many body literals a rule has at most. Pairs are as
+/// many as `random_pairs` makes.
 #[derive(Clone, Copy, Debug)]
 pub struct Shape {
     pub atoms: (usize, usize),
@@ -33,7 +35,8 @@ pub fn random_sheet(random: &mut Random, shape: &Shape) -> Vec<u8> {
     let count = random.between(shape.rules.0, shape.rules.1);
     let pool = negations(random, atoms, shape.negations);
     let rules: Vec<Rule> = (0..count).map(|_| random_rule(random, atoms, heads, &pool, shape.literals)).collect();
-    sheet(&names, &rules)
+    let pairs = random_pairs(random, atoms);
+    sheet_with(&names, &rules, &pairs)
 }
 
 /// So many different names of at most so many bytes; some begin alike.

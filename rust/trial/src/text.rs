@@ -1,10 +1,10 @@
-//! A sheet from text: the names of its atoms up to a colon, then its rules.
+//! A sheet from text: the names of its atoms up to a colon, then its rules and pairs.
 //!
-//! `a b: a | b <- not K b; <- a, M b` has two atoms and two rules. A rule ends with `;` or with its line, and blank
-//! ones are skipped. `#` begins a comment, which ends with its line.
+//! `a b: a | b <- not K b; <- a, M b; a <> b` has two atoms, two rules and a pair: a and b are opposites. A rule or a
+//! pair ends with `;` or with its line, and blank ones are skipped. `#` begins a comment, which ends with its line.
 
-use crate::solver::sheet::Rule;
-use crate::write::{sheet as written, HEAD, K, M, NOT, NOT_K, NOT_M, NOT_NOT, PLAIN};
+use crate::solver::sheet::{Pair, Rule};
+use crate::write::{sheet_with as written, HEAD, K, M, NOT, NOT_K, NOT_M, NOT_NOT, PLAIN};
 use std::fmt;
 
 /// What is wrong with a text, and where: line and column count from 1.
@@ -22,7 +22,7 @@ impl fmt::Display for Wrong {
 }
 
 /// What is no word; the last one ends a line.
-const MARKS: [&str; 6] = ["<-", ":", ";", "|", ",", "\n"];
+const MARKS: [&str; 7] = ["<-", "<>", ":", ";", "|", ",", "\n"];
 
 /// What stands before the atom of a literal, and the literal's mask.
 const LITERALS: [(&str, usize); 7] =
@@ -41,7 +41,7 @@ impl Token<'_> {
         Err(Wrong { line: self.line, column: self.column, message: message.into() })
     }
 
-    fn ends_rule(&self) -> bool {
+    fn ends_clause(&self) -> bool {
         matches!(self.text, ";" | "\n")
     }
 }
@@ -49,7 +49,7 @@ impl Token<'_> {
 /// How many bytes of a text are its first mark, space or word.
 fn first(text: &str) -> usize {
     match text.find(|c: char| c.is_whitespace() || ":;|,<".contains(c)) {
-        Some(0) if text.starts_with("<-") => 2,
+        Some(0) if text.starts_with("<-") || text.starts_with("<>") => 2,
         Some(0) => text.chars().next().map_or(0, char::len_utf8),
         end => end.unwrap_or(text.len()),
     }
@@ -83,6 +83,7 @@ fn is_name(text: &str) -> bool {
 struct Reader<'a> {
     names: Vec<&'a str>,
     rules: Vec<Rule>,
+    pairs: Vec<Pair>,
     asked: [u16; 2],
 }
 
@@ -100,6 +101,45 @@ impl<'a> Reader<'a> {
                 Ok(())
             }
         }
+    }
+
+    /// A rule or a pair, and the token that ends it.
+    fn clause(&mut self, tokens: &[Token]) -> Result<(), Wrong> {
+        match tokens.iter().find(|token| ["<-", "<>"].contains(&token.text)) {
+            Some(mark) if mark.text == "<>" => self.pair(tokens),
+            _ => self.rule(tokens),
+        }
+    }
+
+    /// A pair and the token that ends it.
+    fn pair(&mut self, tokens: &[Token]) -> Result<(), Wrong> {
+        if self.pairs.len() == 7 {
+            return tokens[0].wrong("there are over 7 pairs");
+        }
+        let end = tokens.len() - 1;
+        let at = |place: usize| tokens[place.min(end)];
+        let one = self.opposite(at(0))?;
+        if at(1).text != "<>" {
+            return at(1).wrong(format!("<> is missing before {}", at(1).text));
+        }
+        let other = self.opposite(at(2))?;
+        if one == other {
+            return at(2).wrong(format!("{} is twice in the pair", at(2).text));
+        }
+        if end > 3 {
+            return at(3).wrong(format!("a pair has two atoms, and {} follows", at(3).text));
+        }
+        self.pairs.push([one, other]);
+        Ok(())
+    }
+
+    /// The number of an atom that is in no earlier pair.
+    fn opposite(&self, token: Token) -> Result<u8, Wrong> {
+        let atom = self.number(token)?;
+        if self.pairs.as_flattened().contains(&atom) {
+            return token.wrong(format!("{} is in an earlier pair", token.text));
+        }
+        Ok(atom)
     }
 
     /// A rule and the token that ends it.
@@ -149,9 +189,14 @@ impl<'a> Reader<'a> {
         Ok((mask, atom))
     }
 
+    /// An atom's bit.
     fn atom(&self, token: Token) -> Result<u16, Wrong> {
+        Ok(1 << self.number(token)?)
+    }
+
+    fn number(&self, token: Token) -> Result<u8, Wrong> {
         match self.names.iter().position(|&name| name == token.text) {
-            Some(atom) => Ok(1 << atom),
+            Some(atom) => Ok(atom as u8),
             None if MARKS.contains(&token.text) => token.wrong("an atom is missing"),
             None => token.wrong(format!("no atom is named {}", token.text)),
         }
@@ -174,10 +219,10 @@ pub fn sheet(text: &str) -> Result<Vec<u8>, Wrong> {
     let Some(colon) = colon else {
         return tokens[tokens.len() - 1].wrong("a colon is missing after the names");
     };
-    for rule in tokens[colon + 1..].split_inclusive(Token::ends_rule).filter(|rule| rule.len() > 1) {
-        reader.rule(rule)?;
+    for clause in tokens[colon + 1..].split_inclusive(Token::ends_clause).filter(|clause| clause.len() > 1) {
+        reader.clause(clause)?;
     }
-    Ok(written(&reader.names, &reader.rules))
+    Ok(written(&reader.names, &reader.rules, &reader.pairs))
 }
 
 /// The sheet's bytes; panics where the text is wrong.

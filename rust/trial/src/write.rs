@@ -1,6 +1,6 @@
-//! Sheets written from names and rules, calendars from entries.
+//! Sheets written from names, rules and pairs, calendars from entries.
 
-use crate::solver::sheet::Rule;
+use crate::solver::sheet::{Pair, Rule};
 use std::ops::Range;
 
 pub const HEAD: usize = 0;
@@ -31,8 +31,13 @@ pub fn names_negations(known: u16, possible: u16) -> Rule {
     rule(&[(HEAD, 1), (PLAIN, 1), (K, known), (M, possible)])
 }
 
-/// The bytes of a sheet. Nothing is checked: too many names or too long a name make a sheet that is to be refused.
+/// The bytes of a sheet without pairs.
 pub fn sheet<N: AsRef<[u8]>>(names: &[N], rules: &[Rule]) -> Vec<u8> {
+    sheet_with(names, rules, &[])
+}
+
+/// The bytes of a sheet. Nothing is checked: too many names or too long a name make a sheet that is to be refused.
+pub fn sheet_with<N: AsRef<[u8]>>(names: &[N], rules: &[Rule], pairs: &[Pair]) -> Vec<u8> {
     let mut bytes = vec![names.len() as u8];
     for name in names {
         let name = name.as_ref();
@@ -41,13 +46,20 @@ pub fn sheet<N: AsRef<[u8]>>(names: &[N], rules: &[Rule]) -> Vec<u8> {
     }
     bytes.push(rules.len() as u8);
     bytes.extend(rules.iter().flatten().flat_map(|mask| mask.to_le_bytes()));
+    bytes.push(pairs.len() as u8);
+    bytes.extend(pairs.as_flattened());
     bytes
 }
 
-/// A sheet whose atoms are named a, b, c and so on, at most 26.
+/// A sheet without pairs whose atoms are named a, b, c and so on, at most 26.
 pub fn lettered(atoms: usize, rules: &[Rule]) -> Vec<u8> {
+    lettered_with(atoms, rules, &[])
+}
+
+/// The same with pairs.
+pub fn lettered_with(atoms: usize, rules: &[Rule], pairs: &[Pair]) -> Vec<u8> {
     let names: Vec<[u8; 1]> = (b'a'..=b'z').take(atoms).map(|letter| [letter]).collect();
-    sheet(&names, rules)
+    sheet_with(&names, rules, pairs)
 }
 
 /// An entry of a calendar: the rule's number, the first minute and the end.

@@ -7,7 +7,7 @@ use trial::random::{seed, Random};
 use trial::request::*;
 use trial::sheets::{random_sheet, Shape};
 use trial::solver::sheet::read;
-use trial::write::{calendar, hex, sheet, Entry};
+use trial::write::{calendar, hex, sheet_with, Entry};
 
 const SMALL: Shape = Shape { atoms: (1, 4), rules: (1, 8), negations: 5, literals: 3 };
 const MIDDLE: Shape = Shape { atoms: (3, 6), rules: (4, 20), negations: 6, literals: 4 };
@@ -16,18 +16,18 @@ const MANY: Shape = Shape { atoms: (1, 4), rules: (30, 64), negations: 3, litera
 const WEEK: u16 = 10_080;
 
 /// A sheet and the entries of a calendar.
-struct Pair {
+struct Timed {
     sheet: Vec<u8>,
     entries: Vec<Entry>,
 }
 
-impl Pair {
-    fn random(random: &mut Random) -> Pair {
+impl Timed {
+    fn random(random: &mut Random) -> Timed {
         let shape = random.pick(&[SMALL, SMALL, MIDDLE, MIDDLE, MANY]);
         let sheet = random_sheet(random, &shape);
         let rules = read(&sheet).expect("an accepted sheet").rules.len();
         let count = if random.chance(5) { 64 } else { random.between(1, 8) };
-        Pair { entries: random_entries(random, rules, count), sheet }
+        Timed { entries: random_entries(random, rules, count), sheet }
     }
 
     fn request(&self, call: u8, minute: u16, cells: u16) -> Request {
@@ -35,13 +35,13 @@ impl Pair {
         Request { call, sheet, argument: minute.into(), companion, cells, first: 50_000, ..Request::default() }
     }
 
-    /// The bytes of the sheet with only the rules in force.
+    /// The bytes of the sheet with only the rules in force, and all its pairs.
     fn at(&self, minute: u16) -> Vec<u8> {
         let whole = read(&self.sheet).expect("an accepted sheet");
         let numbered = (0..).zip(whole.rules);
         let rules: Vec<_> =
             numbered.filter(|&(i, _)| in_force(&self.entries, i, minute)).map(|(_, rule)| rule).collect();
-        sheet(&whole.names, &rules)
+        sheet_with(&whole.names, &rules, &whole.pairs)
     }
 
     fn shown(&self) -> String {
@@ -70,20 +70,20 @@ fn the_rules_in_force_as_a_sheet() {
     let mut random = Random::new(seed(), 120);
     let (mut at_minutes, mut of_sheets, mut shown) = (vec![], vec![], vec![]);
     for _ in 0..500 {
-        let pair = Pair::random(&mut random);
-        let edges = edges(&pair.entries);
+        let timed = Timed::random(&mut random);
+        let edges = edges(&timed.entries);
         for _ in 0..edges.len().min(12) {
             let minute = random.pick(&edges);
-            let at = pair.request(LIST_AT, minute, random.pick(&[0, 3, 4, 9, 40]));
+            let at = timed.request(LIST_AT, minute, random.pick(&[0, 3, 4, 9, 40]));
             of_sheets.push(Request {
                 call: LIST,
-                sheet: pair.at(minute),
+                sheet: timed.at(minute),
                 argument: 0,
                 companion: vec![],
                 ..at.clone()
             });
             at_minutes.push(at);
-            shown.push(format!("{}, minute {minute}", pair.shown()));
+            shown.push(format!("{}, minute {minute}", timed.shown()));
         }
     }
     for ((at, of), shown) in answers(&at_minutes).iter().zip(answers(&of_sheets)).zip(shown) {
@@ -91,9 +91,9 @@ fn the_rules_in_force_as_a_sheet() {
     }
 }
 
-/// The minutes of change of each pair, by the program.
-fn changes(pairs: &[Pair]) -> Vec<Vec<u16>> {
-    let requests: Vec<Request> = pairs.iter().map(|pair| pair.request(CHANGES, 0, 128)).collect();
+/// The minutes of change of each, by the program.
+fn changes(all: &[Timed]) -> Vec<Vec<u16>> {
+    let requests: Vec<Request> = all.iter().map(|timed| timed.request(CHANGES, 0, 128)).collect();
     let minutes = |line: String| {
         let (numbers, cells) = line.split_once(" : ").expect("cells");
         let count = numbers.strip_prefix("0 ").and_then(|count| count.parse().ok()).expect("accepted");
@@ -113,13 +113,13 @@ fn stretches(changes: &[u16]) -> Vec<(u16, u16)> {
 #[test]
 fn equal_between_minutes_of_change() {
     let mut random = Random::new(seed(), 121);
-    let pairs: Vec<Pair> = (0..600).map(|_| Pair::random(&mut random)).collect();
+    let all: Vec<Timed> = (0..600).map(|_| Timed::random(&mut random)).collect();
     let (mut requests, mut places) = (vec![], vec![]);
-    for (number, (pair, changes)) in pairs.iter().zip(changes(&pairs)).enumerate() {
+    for (number, (timed, changes)) in all.iter().zip(changes(&all)).enumerate() {
         for (from, to) in stretches(&changes) {
             let between = (from + random.below(usize::from(later(from, to)) + 1) as u16) % WEEK;
-            requests.extend([from, between, to].map(|minute| pair.request(LIST_AT, minute, 40)));
-            places.push((number, format!("{}, {between} between {from} and {to}", pair.shown())));
+            requests.extend([from, between, to].map(|minute| timed.request(LIST_AT, minute, 40)));
+            places.push((number, format!("{}, {between} between {from} and {to}", timed.shown())));
         }
     }
     let lines = answers(&requests);

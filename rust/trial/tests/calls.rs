@@ -36,8 +36,8 @@ fn compare(requests: &[Request], tail: &[u8], piece: usize, context: &str) -> Ve
 }
 
 /// How often each refusal came (0: accepted).
-fn by_number(lines: &[Line]) -> [usize; 14] {
-    let mut numbers = [0; 14];
+fn by_number(lines: &[Line]) -> [usize; 16] {
+    let mut numbers = [0; 16];
     lines.iter().for_each(|line| numbers[line.numbers[0] as usize] += 1);
     numbers
 }
@@ -159,7 +159,7 @@ fn many(call: u8, refusals: &[usize]) {
     let seed = seed();
     let mut random = Random::new(seed, 100 + u64::from(call));
     let context = format!("seed {seed}");
-    let (mut lines, mut of_calendars) = (Vec::new(), [0; 14]);
+    let (mut lines, mut of_calendars) = (Vec::new(), [0; 16]);
     for count in [100, 1_500, 1_600] {
         let requests: Vec<Request> = (0..count).map(|_| random_request(&mut random, call)).collect();
         lines.extend(compare(&requests, &[], 1 << 16, &context));
@@ -184,13 +184,13 @@ fn many(call: u8, refusals: &[usize]) {
 
 #[test]
 fn random_requests() {
-    many(CHECK, &[1, 2, 3, 4, 5, 6, 7]);
-    many(VERDICT, &[1, 2, 3, 4, 5, 6, 7, 8, 13]);
-    many(BELIEF_SETS, &[1, 2, 3, 4, 5, 6, 7, 8, 9, 13]);
-    many(LIST, &[1, 2, 3, 4, 5, 6, 7, 9, 13]);
-    many(QUERY, &[1, 2, 3, 4, 5, 6, 7, 10, 13]);
-    many(LIST_AT, &[1, 2, 3, 4, 5, 6, 7, 9, 11, 12]);
-    many(CHANGES, &[1, 2, 3, 4, 5, 6, 7, 9, 11]);
+    many(CHECK, &[1, 2, 3, 4, 5, 6, 7, 15]);
+    many(VERDICT, &[1, 2, 3, 4, 5, 6, 7, 8, 13, 15]);
+    many(BELIEF_SETS, &[1, 2, 3, 4, 5, 6, 7, 8, 9, 13, 15]);
+    many(LIST, &[1, 2, 3, 4, 5, 6, 7, 9, 13, 15]);
+    many(QUERY, &[1, 2, 3, 4, 5, 6, 7, 10, 13, 15]);
+    many(LIST_AT, &[1, 2, 3, 4, 5, 6, 7, 9, 11, 12, 15]);
+    many(CHANGES, &[1, 2, 3, 4, 5, 6, 7, 9, 11, 15]);
 }
 
 /// All calls mixed, the requests arriving by few bytes.

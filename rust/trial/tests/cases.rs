@@ -30,7 +30,7 @@ fn set(letters: &str) -> u16 {
 fn t_and_f() {
     for (text, guess, t, f) in RULING_OUT {
         let program = program(&good(text));
-        let closed = closure(&reduct(&program.rules, &program.negations, guess), program.atoms);
+        let closed = closure(&program.program_of(guess), program.atoms);
         assert_eq!((closed.t, closed.f), (set(t), set(f)), "{text}");
     }
 }
@@ -73,8 +73,9 @@ fn rules_that_matter() {
 /// Whether some verdict is another by another table of the reduct.
 fn shows(program: &Program, table: &Table) -> bool {
     (0..1 << program.negations.len()).any(|guess| {
-        let sets = stable_sets(&reduct_by(table, &program.rules, &program.negations, guess), program.atoms);
-        program.verdict_by(guess, &sets) != program.verdict(guess)
+        let mut rules = reduct_by(table, &program.rules, &program.negations, guess);
+        rules.extend(&program.constraints);
+        program.verdict_by(guess, &stable_sets(&rules, program.atoms)) != program.verdict(guess)
     })
 }
 

@@ -6,7 +6,7 @@ use std::os::unix::fs::symlink;
 use std::path::{Path, PathBuf};
 use std::process::Command;
 use trial::known::{kiln, KILN_LINES};
-use trial::write::{lettered, rule, sheet, M, NOT};
+use trial::write::{lettered, lettered_with, rule, sheet, M, NOT};
 
 /// A folder of this test's own, with a sheet of the user's and a link to the command.
 fn folder() -> PathBuf {
@@ -69,16 +69,19 @@ fn the_command() {
 }
 
 fn refused_in_words(folder: &Path) {
-    let refused: [(&str, Vec<u8>); 9] = [
+    let refused: [(&str, Vec<u8>); 12] = [
         ("1 0", vec![]),
         ("1 1", vec![0]),
+        ("1 2", vec![0, 0]),
         ("2 0", vec![16]),
         ("2 1", vec![0, 65]),
+        ("2 2", vec![0, 0, 8]),
         ("3 7", sheet(&["kiln", "Kiln"], &[])),
         ("4 8", sheet(&["kiln", "b", "kiln"], &[])),
         ("5 10", lettered(2, &[rule(&[(NOT, 4)])])),
-        ("6 47", [kiln(), vec![0; 2_000]].concat()),
+        ("6 48", [kiln(), vec![0; 2_000]].concat()),
         ("7 0", lettered(13, &[rule(&[(M, 0x1FFF)])])),
+        ("15 9", lettered_with(3, &[], &[[0, 3]])),
     ];
     for (numbers, sheet) in refused {
         fs::write(folder.join("bad"), &sheet).expect("a file");

@@ -23,7 +23,7 @@ struct Case {
     sheet: Vec<u8>,
     masks: [u16; 2],
     opened: Result<Opened, Refusal>,
-    /// The rules of the sheet, without the constraints of the day.
+    /// The rules and pairs of the sheet, without the constraints of the day.
     program: Program,
 }
 
@@ -96,7 +96,7 @@ type Row = (&'static str, [&'static str; 2], &'static [&'static str]);
 const NONE: [&str; 2] = ["", ""];
 
 /// By hand, from "a model of the reduct of which no proper subset is one".
-const BY_HAND: [Row; 38] = [
+const BY_HAND: [Row; 44] = [
     // Rings: a set is grown from outside or not at all.
     ("a b c: a <- b; b <- c; c <- a", NONE, &["-"]),
     ("a b c: a <- b; b <- c; c <- a; c", NONE, &["abc"]),
@@ -138,6 +138,13 @@ const BY_HAND: [Row; 38] = [
         &["abcde"],
     ),
     ("a b c d e: a | b; c | d; e <- a, c; e <- a, d; e <- b, c; a <- e; b <- e; c <- e; d <- e", NONE, &["bd"]),
+    // Pairs: what is grown whole may have one.
+    ("a b: a <- not not a; b <- a; a <> b", NONE, &["-"]),
+    ("a b c d: a <- not b; b <- not a; c <- a; c <- d; d <- c; a <> d", NONE, &["b"]),
+    ("a b c: a | b; c <- a; c <- b; b <> c", NONE, &["ac"]),
+    ("a b c: a | b; b | c; a <> c", NONE, &["b"]),
+    ("a b c: a | b; a <- b; b <- a; c <- not not c; a <> b", NONE, &[""]),
+    ("a b c: a <- not not a; b <- not not b; c <- a; b <> c", ["b", ""], &["b"]),
     // An in-atom is not grown from, and the smaller models need not have it.
     ("a b: a <- b; b <- a", ["a", ""], &[""]),
     ("a b c: a | b; c <- a, b; a <- c; b <- c", ["c", ""], &[""]),

@@ -7,6 +7,7 @@ use trial::damage::{damaged, too_many_negations};
 use trial::known::{kiln, known, titled};
 use trial::large::{masked, named};
 use trial::masks::{faulty_masks, random_masks, FAULTS};
+use trial::pairs::pairs_of;
 use trial::random::{seed, Random};
 use trial::sheets::{random_names, random_sheet, Shape};
 use trial::solver::calls::{list_code, open_under, Opened};
@@ -42,7 +43,7 @@ const LARGE: Shape = Shape { atoms: (9, 12), rules: (8, 40), negations: 9, liter
 /// were made, and calls that were refused with 9.
 #[derive(Default)]
 struct Seen {
-    sheets: [usize; 14],
+    sheets: [usize; 16],
     guesses: [usize; 6],
     calls: usize,
     short: usize,
@@ -69,19 +70,19 @@ fn lengths(random: &mut Random, opened: &Result<Opened, Refusal>) -> Vec<usize> 
 }
 
 /// A sheet and day masks.
-type Pair = (Vec<u8>, [u16; 2]);
+type Asked = (Vec<u8>, [u16; 2]);
 
-fn shown((sheet, masks): &Pair) -> String {
+fn shown((sheet, masks): &Asked) -> String {
     format!("seed {}, sheet {}, masks {masks:?}", seed(), hex(sheet))
 }
 
 /// Calls both on a buffer filled with a pattern, and compares all of it.
-fn compare(pair: &Pair, opened: &Result<Opened, Refusal>, length: usize, salt: u8) -> u32 {
+fn compare(asked: &Asked, opened: &Result<Opened, Refusal>, length: usize, salt: u8) -> u32 {
     let before: Vec<u8> = (0..length).map(|i| (i as u8).wrapping_mul(37) ^ salt).collect();
     let (mut ours, mut theirs) = (before.clone(), before.clone());
     let expected = list_code(opened, &mut theirs);
-    let code = desk_call(&pair.0, pair.1, &mut ours);
-    let place = || format!("{length} bytes lent, {}", shown(pair));
+    let code = desk_call(&asked.0, asked.1, &mut ours);
+    let place = || format!("{length} bytes lent, {}", shown(asked));
     assert_eq!(code, expected, "the returned number; {}", place());
     assert_eq!(ours, theirs, "the lent bytes; {}", place());
     if code != 0 {
@@ -91,7 +92,7 @@ fn compare(pair: &Pair, opened: &Result<Opened, Refusal>, length: usize, salt: u
 }
 
 /// The Rust call: without masks the one that takes none.
-fn rust_call((sheet, masks): &Pair) -> Result<Listing, budkarv::Refusal> {
+fn rust_call((sheet, masks): &Asked) -> Result<Listing, budkarv::Refusal> {
     let [in_atoms, out_atoms] = masks.map(Atoms::from_bits);
     match *masks {
         NONE => budkarv::list(sheet),
@@ -100,8 +101,8 @@ fn rust_call((sheet, masks): &Pair) -> Result<Listing, budkarv::Refusal> {
 }
 
 /// Compares the answer of the Rust call.
-fn compare_types(pair: &Pair, opened: &Result<Opened, Refusal>) {
-    let ours = rust_call(pair).map(|Listing { counts: c, views }| {
+fn compare_types(asked: &Asked, opened: &Result<Opened, Refusal>) {
+    let ours = rust_call(asked).map(|Listing { counts: c, views }| {
         let words = |view: &WorldView| [view.guess, view.known.bits(), view.possible.bits(), view.sets];
         ([c.views, c.covered, c.ruled, c.tested, c.empty, c.other], views.iter().map(words).collect::<Vec<_>>())
     });
@@ -110,15 +111,15 @@ fn compare_types(pair: &Pair, opened: &Result<Opened, Refusal>) {
         (listing.counts, listing.views.iter().map(|view| view.words()).collect())
     });
     let ours = ours.map_err(|refusal| Refusal { number: refusal.number(), place: refusal.place() });
-    assert_eq!(ours.as_ref(), theirs.as_ref().map_err(|&refusal| refusal), "{}", shown(pair));
+    assert_eq!(ours.as_ref(), theirs.as_ref().map_err(|&refusal| refusal), "{}", shown(asked));
 }
 
-fn compare_all(pair: &Pair, random: &mut Random, seen: &mut Seen) {
-    let opened = open_under(&pair.0, pair.1);
+fn compare_all(asked: &Asked, random: &mut Random, seen: &mut Seen) {
+    let opened = open_under(&asked.0, asked.1);
     seen.sheet(&opened);
-    compare_types(pair, &opened);
+    compare_types(asked, &opened);
     for length in lengths(random, &opened) {
-        let code = compare(pair, &opened, length, random.word() as u8);
+        let code = compare(asked, &opened, length, random.word() as u8);
         seen.calls += 1;
         seen.short += usize::from(code >> 16 == 9);
     }
@@ -130,14 +131,14 @@ fn run(title: &str, stream: u64, count: usize, mut next: impl FnMut(&mut Random)
 }
 
 /// The same under masks.
-fn run_under(title: &str, stream: u64, count: usize, mut next: impl FnMut(&mut Random) -> Pair) -> Seen {
+fn run_under(title: &str, stream: u64, count: usize, mut next: impl FnMut(&mut Random) -> Asked) -> Seen {
     let seed = seed();
     let mut random = Random::new(seed, stream);
     let mut seen = Seen::default();
     let start = Instant::now();
     for _ in 0..count {
-        let pair = next(&mut random);
-        compare_all(&pair, &mut random, &mut seen);
+        let asked = next(&mut random);
+        compare_all(&asked, &mut random, &mut seen);
     }
     let Seen { sheets, guesses, calls, short } = &seen;
     println!(
@@ -185,7 +186,8 @@ fn damaged_sheets() {
         let sheet = random_sheet(random, &shape);
         damaged(random, &sheet)
     });
-    assert!(seen.sheets[1..8].iter().all(|&count| count >= 100), "refusals 1 to 7 all occur: {:?}", seen.sheets);
+    let occurs = |number: usize| seen.sheets[number] >= 100;
+    assert!((1..=7).chain([15]).all(occurs), "refusals 1 to 7 and 15 all occur: {:?}", seen.sheets);
     assert!(seen.short >= 100, "refusal 9 occurs: {}", seen.short);
 }
 
@@ -201,7 +203,7 @@ fn sheets_under_masks() {
         let masks = if faulty { faulty_masks(random, atoms, fault) } else { random_masks(random, atoms) };
         (if random.chance(10) { damaged(random, &sheet) } else { sheet }, masks)
     });
-    assert!([0, 1, 5, 6, 13].iter().all(|&number| seen.sheets[number] >= 20), "refusals: {:?}", seen.sheets);
+    assert!([0, 1, 5, 6, 13, 15].iter().all(|&number| seen.sheets[number] >= 20), "refusals: {:?}", seen.sheets);
     assert!(seen.guesses.iter().all(|&guesses| guesses > 300), "every count occurs: {:?}", seen.guesses);
     assert!(seen.short >= 100, "refusal 9 occurs: {}", seen.short);
 }
@@ -228,19 +230,23 @@ fn named_sheets() {
 #[test]
 fn refused_calls_keep_every_byte() {
     let thirteen = lettered(13, &[rule(&[(K, 0x1FFF)])]);
-    let refused: [(u32, Vec<u8>); 8] = [
+    let refused: [(u32, Vec<u8>); 12] = [
         (1 << 16 | 2, vec![1, 1]),
+        (1 << 16 | 2, vec![0, 0]),
         (2 << 16, vec![16]),
+        (2 << 16 | 2, vec![0, 0, 8]),
         (3 << 16 | 1, vec![1, 0, 0]),
         (4 << 16 | 3, sheet(&["a", "a"], &[])),
         (5 << 16 | 4, lettered(1, &[rule(&[(HEAD, 2)])])),
-        (6 << 16 | 2, vec![0, 0, 0]),
+        (6 << 16 | 3, vec![0; 4]),
         (7 << 16, thirteen),
+        (15 << 16 | 7, lettered_with(2, &[], &[[0, 2]])),
+        (15 << 16 | 11, lettered_with(3, &[], &[[0, 1], [2, 1]])),
         (9 << 16 | 2, titled("6:").sheet),
     ];
     for (code, sheet) in refused {
         refused_so(code, &(sheet.clone(), NONE));
-        if code >> 16 < 9 {
+        if code >> 16 != 9 {
             refused_so(code, &(sheet, [65_535, 65_535]));
         }
     }
@@ -248,23 +254,23 @@ fn refused_calls_keep_every_byte() {
     for masks in [[4, 0], [0, 4], [32_768, 0], [0, 32_768], [1, 1], [3, 2], [3, 3]] {
         refused_so(13 << 16, &(six(), masks));
     }
-    refused_so(13 << 16, &(vec![0, 0], [1, 0]));
-    refused_so(13 << 16, &(vec![0, 0], [0, 1]));
+    refused_so(13 << 16, &(vec![0; 3], [1, 0]));
+    refused_so(13 << 16, &(vec![0; 3], [0, 1]));
 }
 
 /// Buffers of less than 28 bytes, which are too short for two views.
-fn refused_so(code: u32, pair: &Pair) {
+fn refused_so(code: u32, asked: &Asked) {
     for length in 0..28 {
         let mut out: Vec<u8> = (0..length).map(|i| 200 - i).collect();
         let before = out.clone();
-        assert_eq!(desk_call(&pair.0, pair.1, &mut out), code, "{}, {length} bytes", shown(pair));
-        assert_eq!(out, before, "{}, {length} bytes", shown(pair));
+        assert_eq!(desk_call(&asked.0, asked.1, &mut out), code, "{}, {length} bytes", shown(asked));
+        assert_eq!(out, before, "{}, {length} bytes", shown(asked));
     }
 }
 
 /// Sheet 6 by hand: six counts and two records in 28 bytes, and an odd byte more, which is kept.
 #[test]
-fn pairs_of_bytes() {
+fn words_in_bytes() {
     let mut out = [0xEE; 29];
     assert_eq!(desk_call(&titled("6:").sheet, NONE, &mut out), 0);
     assert_eq!(out[..12], [2, 0, 1, 0, 1, 0, 2, 0, 0, 0, 0, 0]);
@@ -273,7 +279,7 @@ fn pairs_of_bytes() {
 
 /// The same with a in, and with a out: one view, by hand, and the bytes after its record are kept.
 #[test]
-fn pairs_of_bytes_under_masks() {
+fn words_in_bytes_under_masks() {
     for (masks, record) in [([1, 0], [2, 0, 1, 0, 1, 0, 1, 0]), ([0, 1], [1, 0, 2, 0, 2, 0, 1, 0])] {
         let mut out = [0xEE; 22];
         assert_eq!(desk_call(&titled("6:").sheet, masks, &mut out), 0);
@@ -282,18 +288,32 @@ fn pairs_of_bytes_under_masks() {
     }
 }
 
-/// 15 atoms with names of 12 bytes and 64 rules; twelve negations, or thirteen, which are refused.
+/// "a ← M a" and "b ← M b", a and b being opposites: by hand, two views, and an odd byte more, which is kept.
+#[test]
+fn opposites_as_bytes() {
+    let from_m = |atom| rule(&[(HEAD, atom), (M, atom)]);
+    let mut out = [0xEE; 29];
+    assert_eq!(desk_call(&lettered_with(2, &[from_m(1), from_m(2)], &[[1, 0]]), NONE, &mut out), 0);
+    assert_eq!(out[..12], [2, 0, 1, 0, 1, 0, 2, 0, 0, 0, 0, 0]);
+    assert_eq!(out[12..], [1, 0, 1, 0, 1, 0, 1, 0, 2, 0, 2, 0, 2, 0, 1, 0, 0xEE]);
+}
+
+/// 15 atoms with names of 12 bytes, 64 rules, and no pairs, one or seven; twelve negations, or thirteen, which are
+/// refused.
 #[test]
 fn limit_sheets() {
-    let seen = run("limit sheets", 7, 6, |random| limit_sheet(random, 0b11_1111, 0b11_1111));
-    assert_eq!(seen.sheets[0], 6);
-    let seen = run("thirteen negations", 8, 6, |random| limit_sheet(random, 0b11_1111, 0b111_1111));
+    for (pairs, stream, count) in [(0, 7, 6), (1, 12, 6), (7, 13, 2)] {
+        let title = format!("limit sheets, pairs: {pairs}");
+        let seen = run(&title, stream, count, |random| limit_sheet(random, 0b11_1111, 0b11_1111, pairs));
+        assert_eq!(seen.sheets[0], count);
+    }
+    let seen = run("thirteen negations", 8, 6, |random| limit_sheet(random, 0b11_1111, 0b111_1111, 7));
     assert_eq!(seen.sheets[7], 6);
 }
 
-/// Random rules over the atoms, of which these stand under K and under M; the first rule, which is always true, names
-/// all of these.
-fn limit_sheet(random: &mut Random, known: u16, possible: u16) -> Vec<u8> {
+/// Random rules over the atoms, of which these stand under K and under M, and so many pairs; the first rule, which is
+/// always true, names all of these.
+fn limit_sheet(random: &mut Random, known: u16, possible: u16, pairs: usize) -> Vec<u8> {
     let mut rules = vec![names_negations(known, possible)];
     while rules.len() < 64 {
         let bit = |random: &mut Random| 1 << random.below(15);
@@ -305,7 +325,8 @@ fn limit_sheet(random: &mut Random, known: u16, possible: u16) -> Vec<u8> {
         ]);
         rules.push(rule);
     }
-    sheet(&long_names(random), &rules)
+    let pairs = pairs_of(random, 15, pairs);
+    sheet_with(&long_names(random), &rules, &pairs)
 }
 
 fn long_names(random: &mut Random) -> Vec<Vec<u8>> {

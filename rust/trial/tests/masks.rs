@@ -11,7 +11,7 @@ use trial::solver::calls::{open, open_under};
 use trial::solver::listing::{Program, Verdict};
 use trial::solver::sheet::read;
 use trial::solver::{meet, members, within};
-use trial::write::{hex, rule, sheet, NOT, PLAIN};
+use trial::write::{hex, rule, sheet_with, NOT, PLAIN};
 
 const SMALL: Shape = Shape { atoms: (1, 4), rules: (0, 8), negations: 4, literals: 3 };
 const MIDDLE: Shape = Shape { atoms: (3, 7), rules: (3, 16), negations: 5, literals: 4 };
@@ -75,7 +75,7 @@ impl Case {
         let mut rules = read.rules;
         rules.extend(members(in_atoms).map(|atom| rule(&[(NOT, 1 << atom)])));
         rules.extend(members(out_atoms).map(|atom| rule(&[(PLAIN, 1 << atom)])));
-        (rules.len() <= 64).then(|| sheet(&read.names, &rules))
+        (rules.len() <= 64).then(|| sheet_with(&read.names, &rules, &read.pairs))
     }
 
     fn day(&self) -> Day {

@@ -6,7 +6,7 @@ use std::io::{Read, Write};
 use std::path::PathBuf;
 use std::thread;
 use std::time::Duration;
-use trial::cases::sheets::long_names;
+use trial::cases::sheets::{long_names, SEVEN};
 use trial::damage::{damaged, too_many_negations};
 use trial::known::{kiln, titled, KILN_LINES};
 use trial::programs::{feed, output, start};
@@ -57,7 +57,8 @@ fn the_lines_in_the_readme() {
     assert!(indented(&readme).contains(KILN_LINES), "README.md shows what is printed for the kiln sheet");
 }
 
-/// The sheets to try and `examples/README.md` name each other, and under each name stands what is printed.
+/// The sheets to try and `examples/README.md` name each other, and under each name stands what the second solver says and
+/// what is printed.
 #[test]
 fn the_sheets_to_try() {
     let readme = fs::read_to_string(repository("examples/README.md")).expect("examples/README.md");
@@ -77,20 +78,24 @@ fn the_sheets_to_try() {
     assert_eq!(blocks.iter().map(|(name, _)| *name).collect::<Vec<_>>(), files, "headings, and files");
     for (name, block) in blocks {
         let sheet = fs::read(repository("examples").join(name)).expect(name);
+        assert_eq!(block.as_bytes(), lines(&sheet), "the indented lines under {name}, and the second solver's");
         assert_eq!(block, printed(&sheet), "the indented lines under {name}, and what is printed");
     }
 }
 
-/// "Its first 1,222 bytes decide": the longest sheet passes, one more byte or a million more are refused alike.
+/// "The program reads up to 1,237 bytes": the longest sheet passes, one more byte or a million more are refused alike.
 #[test]
 fn inputs_that_are_too_long() {
-    let longest = sheet(&long_names(), &[rule(&[(HEAD, 1), (PLAIN, 1)]); 64]);
-    assert_eq!(longest.len(), 1_221);
+    let longest = sheet_with(&long_names(), &[rule(&[(HEAD, 1), (PLAIN, 1)]); 64], &SEVEN);
+    assert_eq!(longest.len(), 1_236);
     assert_eq!(printed(&longest), "sheet 15 64 0\nview 0 1\nset\ntally 1 0 0 1 0 0\n");
+    let last_pair_bad = [&longest[..1_235], &[0]].concat();
     for more in [1, 2, 100, 70_000, 1_000_000] {
-        assert_eq!(printed(&[longest.clone(), vec![0; more]].concat()), "refused 6 1221\n", "{more} bytes more");
-        assert_eq!(printed(&[kiln(), vec![0; more]].concat()), "refused 6 47\n", "{more} bytes more");
-        assert_eq!(printed(&vec![255; 1_221 + more]), "refused 2 0\n", "{more} bytes more");
+        let and_more = |sheet: &[u8]| printed(&[sheet, &vec![0; more]].concat());
+        assert_eq!(and_more(&longest), "refused 6 1236\n", "{more} bytes more");
+        assert_eq!(and_more(&last_pair_bad), "refused 15 1234\n", "{more} bytes more");
+        assert_eq!(and_more(&kiln()), "refused 6 48\n", "{more} bytes more");
+        assert_eq!(printed(&vec![255; 1_236 + more]), "refused 2 0\n", "{more} bytes more");
     }
 }
 
@@ -107,8 +112,8 @@ fn inputs_that_arrive_in_pieces() {
     let output_bytes = child.wait_with_output().expect("views ends").stdout;
     assert_eq!(String::from_utf8(output_bytes).unwrap(), KILN_LINES);
 
-    let longest = sheet(&long_names(), &[rule(&[(HEAD, 0x7FFF)]); 64]);
-    for piece in [1, 7, 100, 1_220] {
+    let longest = sheet_with(&long_names(), &[rule(&[(HEAD, 0x7FFF)]); 64], &SEVEN);
+    for piece in [1, 7, 100, 1_235] {
         assert_eq!(output("views", longest.clone(), piece), lines(&longest), "pieces of {piece}");
     }
 }

@@ -13,6 +13,7 @@ Reads text from the file, or from standard input (-), and writes the sheet's byt
     a b:                  # the names of the atoms, and a colon
     a | b <- not K b      # a rule ends with its line or with ;
     <- a, M b; b <- not not a
+    a <> b                # a pair: a and b are opposites
 
 Literals: a, not a, not not a, K a, not K a, M a, not M a.
 Status: 0; 1 where the text is wrong; 2 where it can't be read or the sheet can't be written.

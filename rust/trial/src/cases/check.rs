@@ -9,7 +9,7 @@ use crate::write::*;
 
 const NOTHING: Rule = [0; 8];
 
-fn case(title: impl Into<String>, sheet: Vec<u8>, numbers: &[u32]) -> Case {
+pub fn case(title: impl Into<String>, sheet: Vec<u8>, numbers: &[u32]) -> Case {
     Case::new(&title.into(), CHECK, &sheet, 0, 0).owing(&format!("{} :", spaced(numbers)))
 }
 
@@ -18,18 +18,19 @@ pub fn cases() -> Vec<Case> {
     parts.into_iter().flat_map(|part| part()).chain(two_wrong_rules()).collect()
 }
 
-/// Lengths of names at 1 and 4, the rule count at 8, rules at 9 and 25, 41 bytes.
+/// Lengths of names at 1 and 4, the rule count at 8, rules at 9 and 25, the pair count at 41, 42 bytes.
 fn two() -> Vec<u8> {
     sheet(&["ab", "cde"], &[[3; 8]; 2])
 }
 
 /// Sizes and counts (refusal 2).
 fn counts() -> Vec<Case> {
-    let pairs: Vec<[u8; 2]> = (0..255).map(|i| [b'a' + i / 26, b'a' + i % 26]).collect();
+    let letters: Vec<[u8; 2]> = (0..255).map(|i| [b'a' + i / 26, b'a' + i % 26]).collect();
     vec![
         case("empty input", vec![], &[1, 0]),
-        case("shortest sheet", vec![0, 0], &[0, 0, 0, 0]),
+        case("shortest sheet", vec![0, 0, 0], &[0, 0, 0, 0]),
         case("one byte 0", vec![0], &[1, 1]),
+        case("two bytes 0", vec![0, 0], &[1, 2]),
         case("one byte 15", vec![15], &[1, 1]),
         case("one byte 16", vec![16], &[2, 0]),
         case("one byte 255", vec![255], &[2, 0]),
@@ -37,10 +38,9 @@ fn counts() -> Vec<Case> {
         case("a length 0", vec![1, 0], &[3, 1]),
         case("a length 13", vec![1, 13], &[3, 1]),
         case("a bad byte of two", vec![1, 2, b'A'], &[1, 3]),
-        case("no rules and a byte 9", vec![0, 0, 9], &[6, 2]),
         case("15 atoms", lettered(15, &[]), &[0, 15, 0, 0]),
         case("16 atoms", lettered(16, &[]), &[2, 0]),
-        case("255 atoms", sheet(&pairs, &[]), &[2, 0]),
+        case("255 atoms", sheet(&letters, &[]), &[2, 0]),
         case("64 rules", lettered(0, &[NOTHING; 64]), &[0, 0, 64, 0]),
         case("65 rules", lettered(0, &[NOTHING; 65]), &[2, 1]),
         case("255 rules, the last ones cut off", lettered(0, &[NOTHING; 255])[..MOST_SHEET].to_vec(), &[2, 1]),
@@ -49,18 +49,19 @@ fn counts() -> Vec<Case> {
         case("rule count 255 after 1 name", put(&lettered(1, &[]), 3, 255), &[2, 3]),
         case("rule count 65 after 15 long names", put(&longest()[..197], 196, 65), &[2, 196]),
         case("longest sheet", longest(), &[0, 15, 64, 12]),
-        case("longest sheet and one byte", add(&longest(), &[0]), &[6, 1221]),
-        case("longest sheet within 2000 bytes", add(&longest(), &[0; 779]), &[6, 1221]),
-        case("shortest sheet within 2000 bytes", vec![0; 2000], &[6, 2]),
+        case("longest sheet and one byte", add(&longest(), &[0]), &[6, 1236]),
+        case("longest sheet within 2000 bytes", add(&longest(), &[0; 764]), &[6, 1236]),
+        case("shortest sheet within 2000 bytes", vec![0; 2000], &[6, 3]),
         case("two names and two rules", two(), &[0, 2, 2, 4]),
     ]
 }
 
 /// Bytes that end too soon (refusal 1), the place is the length: `two` anywhere, the longest sheet in its last name,
-/// before its last rule and one byte short.
+/// before its last rule, in it, and anywhere in its pairs.
 fn ends() -> Vec<Case> {
     let (two, longest) = (two(), longest());
-    let ends = (0..two.len()).map(|length| &two[..length]).chain([195, 1205, 1220].map(|length| &longest[..length]));
+    let of_longest = [195, 1205, 1220].into_iter().chain(1221..1236).map(|length| &longest[..length]);
+    let ends = (0..two.len()).map(|length| &two[..length]).chain(of_longest);
     ends.map(|sheet| case(format!("end at {}", sheet.len()), sheet.to_vec(), &[1, sheet.len() as u32])).collect()
 }
 
@@ -148,7 +149,7 @@ fn bits() -> Vec<Case> {
         case("bad bit in mask 4 of the second rule", lettered(1, &[rule(&[(HEAD, 1)]), rule(&[(K, 2)])]), &[5, 28]),
         case("bad bit in second rule", lettered(2, &[NOTHING, rule(&[(HEAD, 4)])]), &[5, 22]),
         case("bad bit in last mask of 64 rules", lettered(15, &last), &[5, 1054]),
-        case("bad bit in last byte of longest sheet", put(&longest(), 1220, 128), &[5, 1219]),
+        case("bad bit in last mask of longest sheet", put(&longest(), 1220, 128), &[5, 1219]),
     ];
     for (atoms, masks) in BAD_BITS {
         cases.extend(masks.iter().enumerate().map(|(mask, &(bit, place))| {
@@ -172,18 +173,18 @@ fn good_bits() -> Vec<Case> {
     ]
 }
 
-/// Bytes after the last rule (refusal 6).
+/// Bytes after the last pair (refusal 6), here of sheets without pairs.
 fn extra() -> Vec<Case> {
     let one = lettered(2, &[rule(&[(HEAD, 3)])]);
     vec![
-        case("one byte after shortest sheet", vec![0, 0, 0], &[6, 2]),
-        case("a rule after shortest sheet", vec![0; 18], &[6, 2]),
-        case("one byte after names", add(&lettered(1, &[]), &[255]), &[6, 4]),
-        case("a rule after names", add(&lettered(1, &[]), &lettered(1, &[rule(&[(HEAD, 1)])])[4..]), &[6, 4]),
-        case("one byte after rules", add(&one, &[1]), &[6, 22]),
-        case("a rule after rules", add(&one, &one[6..]), &[6, 22]),
-        case("many bytes after rules", add(&two(), &b"extra".repeat(60)), &[6, 41]),
-        case("a 65th rule after 64", add(&lettered(0, &[NOTHING; 64]), &[0; 16]), &[6, 1026]),
+        case("one byte after shortest sheet", vec![0; 4], &[6, 3]),
+        case("a rule after shortest sheet", vec![0; 19], &[6, 3]),
+        case("one byte after names", add(&lettered(1, &[]), &[255]), &[6, 5]),
+        case("a rule after names", add(&lettered(1, &[]), &lettered(1, &[rule(&[(HEAD, 1)])])[4..20]), &[6, 5]),
+        case("one byte after rules", add(&one, &[1]), &[6, 23]),
+        case("a rule after rules", add(&one, &one[6..22]), &[6, 23]),
+        case("many bytes after rules", add(&two(), &b"extra".repeat(60)), &[6, 42]),
+        case("a 65th rule after 64", add(&lettered(0, &[NOTHING; 64]), &[0; 16]), &[6, 1027]),
     ]
 }
 
@@ -247,8 +248,8 @@ fn two_wrong_rules() -> Vec<Case> {
         case("bad bit and 13 negations", lettered(13, &[rule(&[(K, 8191), (NOT_M, 8192)])]), &[5, 42]),
         case("12 negations, K, M and not M", lettered(7, &[twelve]), &[0, 7, 1, 12]),
         case("13 negations, K, M and not M", lettered(7, &[twelve, rule(&[(NOT_K, 64)])]), &[7, 0]),
-        case("the same and a byte", add(&lettered(7, &[twelve, rule(&[(NOT_K, 64)])]), &[0]), &[6, 48]),
-        case("13 negations and bytes after", add(&lettered(13, &[thirteen]), &[0]), &[6, 44]),
+        case("the same and a byte", add(&lettered(7, &[twelve, rule(&[(NOT_K, 64)])]), &[0]), &[6, 49]),
+        case("13 negations and bytes after", add(&lettered(13, &[thirteen]), &[0]), &[6, 45]),
         case("13 negations and next rule missing", lettered(13, &[thirteen, NOTHING])[..44].to_vec(), &[1, 44]),
     ]
 }

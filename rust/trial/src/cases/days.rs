@@ -1,7 +1,7 @@
 //! Day masks over known, small and large sheets; the second solver gives the answers.
 
 use super::guesses::in_turn;
-use super::sheets::{longest, pairs, twelve_m, SIX};
+use super::sheets::{longest, twelve_m, twos, SIX};
 use super::{small, Case};
 use crate::known;
 use crate::masks::{faulty_masks, random_masks, FAULTS};
@@ -95,7 +95,7 @@ fn large_sheets(random: &mut Random) -> Vec<Case> {
     let sheets = [
         ("64 rules in turn", in_turn()),
         ("the longest sheet", longest()),
-        ("12 not K of 12 atoms", pairs()),
+        ("12 not K of 12 atoms", twos()),
         ("12 M of 12 atoms", twelve_m()),
         ("12 negations of 6 atoms", good(SIX)),
     ];

@@ -119,7 +119,7 @@ pub fn in_turn() -> Vec<u8> {
 fn of_twelve() -> Vec<Case> {
     let sheets: [(&str, Vec<u8>, &[u32]); 3] = [
         ("12 negations of 6 atoms", good(SIX), &[1382, 3993]),
-        ("12 not K of 12 atoms", pairs(), &[1365, 2730]),
+        ("12 not K of 12 atoms", twos(), &[1365, 2730]),
         ("12 M of 12 atoms", twelve_m(), &[3455]),
     ];
     let mut cases = Vec::new();
@@ -157,7 +157,7 @@ fn out_of_range() -> Vec<Case> {
 
 /// The sheet is checked first, then the guess, then the buffer.
 fn refused() -> Vec<Case> {
-    let mut cases = refusals("bad sheet, long buffer", &add(&longest(), &[255]), 0, 101, [6, 1221]).to_vec();
+    let mut cases = refusals("bad sheet, long buffer", &add(&longest(), &[255]), 0, 101, [6, 1236]).to_vec();
     for (numbers, sheet) in bad() {
         for (guess, cells) in [(0, 3), (1, 3), (65_535, 1), (4096, 0)] {
             cases.extend(refusals(&format!("bad sheet, refusal {}", numbers[0]), &sheet, guess, cells, numbers));

@@ -18,12 +18,12 @@ fn refused() -> Vec<Case> {
     vec![
         case("0 1 0 :", CHECK, vec![], 0, 0, 0),
         case("0 2 0 : 1", CHECK, vec![16], 0, 1, 1),
-        case("1 6 2 :", VERDICT, vec![0; 3], 7, 0, 0),
+        case("1 6 3 :", VERDICT, vec![0; 4], 7, 0, 0),
         case("2 3 1 : 8 9", BELIEF_SETS, put(&good, 1, 0), 0, 2, 8),
         case("3 4 3 : 1 2 3 4 5", LIST, put(&good, 4, b'a'), 0, 5, 1),
         case("4 5 6 :", QUERY, put(&good, 6, 4), 9, 0, 0),
         case("4 7 0 :", QUERY, thirteen, 13, 0, 0),
-        case("0 6 2 :", CHECK, vec![0; MOST_SHEET], 0, 0, 0),
+        case("0 6 3 :", CHECK, vec![0; MOST_SHEET], 0, 0, 0),
     ]
 }
 

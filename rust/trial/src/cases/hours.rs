@@ -2,7 +2,7 @@
 //! answers.
 
 use super::guesses::in_turn;
-use super::sheets::{longest, pairs};
+use super::sheets::{longest, twos};
 use super::{small, Case};
 use crate::calendars::{edges, random_entries};
 use crate::damage::damaged_calendar;
@@ -19,17 +19,17 @@ pub fn cases() -> Vec<Case> {
 }
 
 /// A sheet and a calendar.
-struct Pair {
+struct Timed {
     title: String,
     sheet: Vec<u8>,
     opened: Opened,
     calendar: Vec<u8>,
 }
 
-impl Pair {
-    fn new(title: &str, sheet: &[u8], calendar: Vec<u8>) -> Pair {
+impl Timed {
+    fn new(title: &str, sheet: &[u8], calendar: Vec<u8>) -> Timed {
         let opened = open(sheet).expect("an accepted sheet");
-        Pair { title: format!("{title}, a calendar"), sheet: sheet.to_vec(), opened, calendar }
+        Timed { title: format!("{title}, a calendar"), sheet: sheet.to_vec(), opened, calendar }
     }
 
     /// The list at a minute, in a buffer with so many cells more than the records fill.
@@ -67,9 +67,9 @@ fn known_sheets(random: &mut Random) -> Vec<Case> {
     for known in known::all() {
         let count = random.between(1, 4);
         let entries = random_entries(random, rules(&known.sheet), count);
-        let pair = Pair::new(known.title, &known.sheet, calendar(&entries));
-        cases.extend(edges(&entries).into_iter().map(|minute| pair.list_at(minute, 0)));
-        cases.extend([pair.changes(false), pair.changes(true)]);
+        let timed = Timed::new(known.title, &known.sheet, calendar(&entries));
+        cases.extend(edges(&entries).into_iter().map(|minute| timed.list_at(minute, 0)));
+        cases.extend([timed.changes(false), timed.changes(true)]);
     }
     cases
 }
@@ -80,8 +80,8 @@ fn small_sheets(random: &mut Random) -> Vec<Case> {
     for (title, sheet) in small::sheets() {
         let count = random.between(1, 6);
         let entries = random_entries(random, rules(&sheet), count);
-        let pair = Pair::new(&title, &sheet, calendar(&entries));
-        cases.push(pair.either(random, &entries));
+        let timed = Timed::new(&title, &sheet, calendar(&entries));
+        cases.push(timed.either(random, &entries));
     }
     cases
 }
@@ -92,21 +92,21 @@ fn damaged(random: &mut Random) -> Vec<Case> {
     for (title, sheet) in small::sheets() {
         let count = random.below(4);
         let entries = random_entries(random, rules(&sheet), count);
-        let pair = Pair::new(&title, &sheet, damaged_calendar(random, &entries, rules(&sheet)));
-        cases.push(pair.either(random, &entries));
+        let timed = Timed::new(&title, &sheet, damaged_calendar(random, &entries, rules(&sheet)));
+        cases.push(timed.either(random, &entries));
     }
     cases
 }
 
 /// Many rules or negations, and 64 entries.
 fn large_sheets(random: &mut Random) -> Vec<Case> {
-    let sheets = [("64 rules in turn", in_turn()), ("the longest sheet", longest()), ("12 not K of 12 atoms", pairs())];
+    let sheets = [("64 rules in turn", in_turn()), ("the longest sheet", longest()), ("12 not K of 12 atoms", twos())];
     let mut cases = Vec::new();
     for (title, sheet) in sheets {
         let entries = random_entries(random, rules(&sheet), 64);
-        let pair = Pair::new(title, &sheet, calendar(&entries));
-        cases.extend((0..4).map(|more| pair.list_at(random.pick(&edges(&entries)), more)));
-        cases.extend([pair.changes(false), pair.changes(true)]);
+        let timed = Timed::new(title, &sheet, calendar(&entries));
+        cases.extend((0..4).map(|more| timed.list_at(random.pick(&edges(&entries)), more)));
+        cases.extend([timed.changes(false), timed.changes(true)]);
     }
     cases
 }

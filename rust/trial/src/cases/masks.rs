@@ -3,7 +3,7 @@
 
 use super::listed::listed;
 use super::rows::{self, rows, word};
-use super::sheets::{bad, each, free, letters, longest, over, pairs};
+use super::sheets::{bad, each, free, letters, longest, over, twos};
 use super::{queries, Case};
 use crate::known::kiln;
 use crate::request::{BELIEF_SETS, LIST, QUERY, VERDICT};
@@ -18,12 +18,12 @@ const EVEN: u16 = 0x5555;
 const ODD: u16 = 0x2AAA;
 
 pub fn cases() -> Vec<Case> {
-    let parts = [turned_away, before_others, sheet_first, last_accepted, sixty_four_rules, longest_sheet, six_pairs];
+    let parts = [turned_away, before_others, sheet_first, last_accepted, sixty_four_rules, longest_sheet, six_twos];
     rows(ANSWERED).flat_map(answered).chain(parts.into_iter().flat_map(|part| part())).collect()
 }
 
 /// A sheet under day masks.
-struct Day {
+pub struct Day {
     title: String,
     sheet: Vec<u8>,
     masks: [u16; 2],
@@ -38,12 +38,12 @@ fn accepted(values: &str, written: &str) -> String {
 }
 
 impl Day {
-    fn new(title: &str, sheet: &[u8], masks: [u16; 2]) -> Day {
+    pub fn new(title: &str, sheet: &[u8], masks: [u16; 2]) -> Day {
         Day { title: title.to_string(), sheet: sheet.to_vec(), masks }
     }
 
     /// A call, with what follows it in its line by hand.
-    fn owing(&self, call: u8, argument: u32, cells: usize, by_hand: &str) -> Case {
+    pub fn owing(&self, call: u8, argument: u32, cells: usize, by_hand: &str) -> Case {
         Case::new(&self.title, call, &self.sheet, argument, cells).under(self.masks).owing(by_hand)
     }
 
@@ -57,7 +57,7 @@ impl Day {
     }
 
     /// The values of the verdict on a guess, and its belief sets.
-    fn guess(&self, guess: u32, sets: &str, verdict: &str) -> Vec<Case> {
+    pub fn guess(&self, guess: u32, sets: &str, verdict: &str) -> Vec<Case> {
         let count = sets.split_whitespace().count();
         let mut cases = self.writing(BELIEF_SETS, guess, &accepted(&count.to_string(), sets), count, count);
         cases.push(self.owing(VERDICT, guess, 1, &accepted(verdict, "")));
@@ -65,7 +65,7 @@ impl Day {
     }
 
     /// The six counts and the records.
-    fn list(&self, counts: &str, records: &str) -> Vec<Case> {
+    pub fn list(&self, counts: &str, records: &str) -> Vec<Case> {
         let needed = records.split_whitespace().count();
         self.writing(LIST, 0, &accepted(counts, records), needed, needed / 4)
     }
@@ -83,7 +83,7 @@ impl Day {
 }
 
 /// Every guess and the first one that is out of range, the list, every atom and the first one out of range.
-fn answered(row: &str) -> Vec<Case> {
+pub fn answered(row: &str) -> Vec<Case> {
     let fields: Vec<&str> = row.split('/').map(str::trim).collect();
     let [sheet, masks, guesses, listing, answers] = fields[..] else { panic!("{row}") };
     let masks = rows::numbers(masks).unwrap_or_else(|| panic!("{row}")).map(word);
@@ -149,7 +149,7 @@ fn before_others() -> Vec<Case> {
     cases
 }
 
-/// 1 to 7 come before 13.
+/// 1 to 7 and 15 come before 13.
 fn sheet_first() -> Vec<Case> {
     let turned_away = [[65_535, 0], [0, 32_768], [1, 1], [65_535, 65_535]];
     let sheets = bad().into_iter().zip(turned_away.iter().cycle());
@@ -226,14 +226,14 @@ fn longest_sheet() -> Vec<Case> {
     .concat()
 }
 
-/// Six pairs, of each one atom is known. With the first of a pair in, of its guesses 2 is verified, 0 covered, and 1 and
+/// Six twos, of each one atom is known. With the first of a two in, of its guesses 2 is verified, 0 covered, and 1 and
 /// 3 are ruled; out, 1 in place of 2. With both in or both out, 0 has no set, and the others are ruled.
-fn six_pairs() -> Vec<Case> {
-    let list = |masks, counts| listed("six pairs", pairs()).under(masks).counted(counts);
+fn six_twos() -> Vec<Case> {
+    let list = |masks, counts| listed("six twos", twos()).under(masks).counted(counts);
     let one = [1, 63, 4032, 1, 0, 0];
     let first_in = [32, 2 * 243 - 32, 4096 - 2 * 243, 32, 0, 0];
     let neither = [0, 0, 4096 - 243, 243, 243, 0];
-    let day = Day::new("six pairs", &pairs(), [1, 0]);
+    let day = Day::new("six twos", &twos(), [1, 0]);
     [
         list([1365, 0], one).views(&[[2730, 1365, 1365, 1]]).edges(),
         list([0, 1365], one).views(&[[1365, 2730, 2730, 1]]).edges(),

@@ -10,6 +10,8 @@ mod hours;
 mod listed;
 mod lists;
 mod masks;
+mod opposites;
+mod pairs;
 mod queries;
 mod rows;
 pub mod sheets;
@@ -112,9 +114,10 @@ impl Case {
 
 /// Every case, some requests more than once.
 fn all() -> impl Iterator<Item = Case> {
-    let parts: [fn() -> Vec<Case>; 11] = [
+    let parts: [fn() -> Vec<Case>; 13] = [
         hand::cases,
         check::cases,
+        pairs::cases,
         small::cases,
         queries::cases,
         guesses::cases,
@@ -124,6 +127,7 @@ fn all() -> impl Iterator<Item = Case> {
         hours::cases,
         masks::cases,
         days::cases,
+        opposites::cases,
     ];
     parts.into_iter().flat_map(|part| part())
 }

@@ -1,10 +1,10 @@
 //! Sheets that several cases have, and what long ones are made with.
 
-use crate::solver::sheet::{read, Rule};
+use crate::solver::sheet::{read, Pair, Rule};
 use crate::text::good;
 use crate::write::*;
 
-/// Two guesses; 38 bytes.
+/// Two guesses; 39 bytes, of which the last is the pair count.
 pub const GOOD: &str = "a b: a | b; a <- K b";
 
 /// Twelve negations of six atoms.
@@ -53,8 +53,8 @@ pub fn each_from(mask: usize, other: impl Fn(usize) -> usize) -> Vec<u8> {
     lettered(12, &rules)
 }
 
-/// Six pairs of atoms, each there unless the other is known.
-pub fn pairs() -> Vec<u8> {
+/// Six twos of atoms, each there unless the other is known.
+pub fn twos() -> Vec<u8> {
     each_from(NOT_K, |atom| atom ^ 1)
 }
 
@@ -81,9 +81,13 @@ pub fn long_names() -> Vec<String> {
 /// A rule with all 15 atoms in masks 0 to 3.
 pub const FULL: Rule = [32_767, 32_767, 32_767, 32_767, 0, 0, 0, 0];
 
-/// 1,221 bytes. Lengths of names at 1, 14, .., 183; the rule count at 196; rules at 197, .., 1205.
+/// Each of the first fourteen atoms in a pair.
+pub const SEVEN: [Pair; 7] = [[0, 1], [2, 3], [4, 5], [6, 7], [8, 9], [10, 11], [12, 13]];
+
+/// 1,236 bytes. Lengths of names at 1, 14, .., 183; the rule count at 196; rules at 197, .., 1205; the pair count at
+/// 1221; pairs at 1222, .., 1234.
 pub fn longest() -> Vec<u8> {
-    sheet(&long_names(), &[[32_767, 32_767, 32_767, 32_767, 63, 0, 0, 63]; 64])
+    sheet_with(&long_names(), &[[32_767, 32_767, 32_767, 32_767, 63, 0, 0, 63]; 64], &SEVEN)
 }
 
 /// 64 rules over 15 atoms, without negations.
@@ -94,13 +98,14 @@ pub fn many_rules() -> Vec<Rule> {
 
 /// Sheets of one-letter names as one sheet, the atoms renamed.
 pub fn beside(parts: &[Vec<u8>]) -> Vec<u8> {
-    let (mut rules, mut atoms) = (Vec::new(), 0);
+    let (mut rules, mut pairs, mut atoms) = (Vec::new(), Vec::new(), 0);
     for part in parts {
         let part = read(part).expect("an accepted sheet");
         rules.extend(part.rules.iter().map(|rule| rule.map(|mask| mask << atoms)));
-        atoms += part.names.len();
+        pairs.extend(part.pairs.iter().map(|pair| pair.map(|atom| atom + atoms)));
+        atoms += part.names.len() as u8;
     }
-    lettered(atoms, &rules)
+    lettered_with(atoms.into(), &rules, &pairs)
 }
 
 /// The sheet with another byte at a place.
@@ -122,19 +127,24 @@ pub fn bad() -> Vec<([u32; 2], Vec<u8>)> {
         ([1, 0], vec![]),
         ([1, 1], vec![0]),
         ([1, 37], good[..37].to_vec()),
+        ([1, 38], good[..38].to_vec()),
+        ([1, 40], add(&put(&good, 38, 1), &[0])),
         ([1, 4], good[..4].to_vec()),
         ([2, 0], vec![16]),
         ([2, 1], vec![0, 65]),
         ([2, 5], put(&good, 5, 65)),
+        ([2, 38], put(&good, 38, 8)),
         ([3, 1], put(&good, 1, 0)),
         ([3, 3], put(&good, 3, 13)),
         ([3, 2], put(&good, 2, b'A')),
         ([4, 3], sheet(&["a", "a"], &[rule(&[(HEAD, 1)])])),
         ([5, 6], put(&good, 6, 4)),
         ([5, 36], put(&good, 37, 128)),
-        ([6, 38], add(&good, &[0])),
-        ([6, 2], vec![0; 3]),
+        ([6, 39], add(&good, &[0])),
+        ([6, 3], vec![0; 4]),
         ([7, 0], lettered(13, &[rule(&[(K, 8_191)])])),
         ([7, 0], lettered(7, &[rule(&[(HEAD, 1), (NOT_K, 127), (M, 63)])])),
+        ([15, 39], add(&put(&good, 38, 1), &[0, 2])),
+        ([15, 27], lettered_with(3, &[rule(&[(HEAD, 1)])], &[[0, 1], [2, 0]])),
     ]
 }

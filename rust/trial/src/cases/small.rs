@@ -26,8 +26,8 @@ pub const EITHER: &str = "a b: a | b <- M a, M b";
 const SURE_CONSTRAINT: &str = "a b: a; <- a, not b; b <- K b";
 
 /// The clauses of "Ruling out", with a guess and its T and F by hand: T and F beyond facts, sure disjunctions, which
-/// add nothing to T, loops that are not in F.
-pub const RULING_OUT: [(&str, u16, &str, &str); 12] = [
+/// add nothing to T, loops that are not in F, pairs, which add nothing to either.
+pub const RULING_OUT: [(&str, u16, &str, &str); 15] = [
     ("a b c d: a; b <- a; c <- not not b; d <- c, not K d", 0, "abc", ""),
     ("a b c: a | b; a <- c; c <- not K b", 1, "ac", ""),
     ("a b c d: a | b | c; b <- d; c <- d, a; d <- K a, M c", 3, "", "d"),
@@ -40,6 +40,9 @@ pub const RULING_OUT: [(&str, u16, &str, &str); 12] = [
     ("a b: a <- not not a; <- not K a, M b; b <- not a", 3, "", ""),
     ("a b: <-; a <- K a, M b", 2, "", "b"),
     ("a b: a <- b, not b; b <- not not b, M a", 1, "", ""),
+    ("a b c: a; b | c; b <- M c; a <> b", 0, "a", ""),
+    ("a b c: a; b <- not not b; c <- M b; a <> b", 1, "ac", ""),
+    ("a b c: a <- M b; b <- not K c; c <- b; a <> b", 3, "abc", ""),
 ];
 
 /// A line of the sheets, with what stands for `?` and `!`.

@@ -1,4 +1,4 @@
-//! The calls of document 01 and of K1, K3 and K5 of document 02, with their refusals and what they leave in lent
+//! The calls of document 01 and of K1, K3, K5 and K7 of document 02, with their refusals and what they leave in lent
 //! buffers.
 
 use super::calendar::{self, Calendar, WEEK};
@@ -18,7 +18,7 @@ pub enum Answer {
     None,
 }
 
-/// A sheet that passed the checks 1 to 7, and the constraints of the day. Its listing is computed at most once.
+/// A sheet that passed the checks 1 to 7 and 15, and the constraints of the day. Its listing is computed at most once.
 #[derive(Debug)]
 pub struct Opened {
     pub names: Vec<Vec<u8>>,
@@ -26,7 +26,7 @@ pub struct Opened {
     listing: OnceCell<Listing>,
 }
 
-/// Opens a sheet, with no constraints of the day, or gives its refusal of 1 to 7.
+/// Opens a sheet, with no constraints of the day, or gives its refusal of 1 to 7 and 15.
 pub fn open(bytes: &[u8]) -> Result<Opened, Refusal> {
     let sheet = read(bytes)?;
     let program = Program::of(&sheet);
@@ -51,7 +51,7 @@ impl Opened {
         Ok(Opened { names: self.names, program: self.program.under(masks), listing: OnceCell::new() })
     }
 
-    /// The check: the numbers of atoms, of rules and of negations.
+    /// The check: the numbers of atoms, of rules, pairs not among them, and of negations.
     pub fn check(&self) -> [usize; 3] {
         [self.names.len(), self.program.rules.len(), self.program.negations.len()]
     }
@@ -83,7 +83,8 @@ impl Opened {
         written(self.listing(), out)
     }
 
-    /// The list at a minute, "of the sheet with only the rules in force"; the calendar's refusals, 12 and 9.
+    /// The list at a minute, "of the sheet with only the rules in force", and all its pairs; the calendar's refusals,
+    /// 12 and 9.
     pub fn list_at(&self, calendar: &[u8], minute: u32, out: &mut [u16]) -> Result<[u16; 6], Refusal> {
         written(&self.listing_at(calendar, minute)?, out)
     }
@@ -96,7 +97,7 @@ impl Opened {
             return Err(Refusal::new(12, 0));
         }
         let rules = calendar.in_force(&self.program.rules, minute);
-        Ok(Program::new(self.program.atoms, rules).listing())
+        Ok(self.program.with_rules(rules).listing())
     }
 
     /// How many minutes of change a calendar has, and those written into `out`; its refusals and 9.

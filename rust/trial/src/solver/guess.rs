@@ -1,6 +1,6 @@
 //! Epistemic negations, guesses and the reduct of a guess.
 
-use super::sheet::Rule;
+use super::sheet::{Pair, Rule};
 use super::{has, members, Set};
 
 /// An epistemic negation of an atom.
@@ -24,8 +24,13 @@ pub struct Objective {
     pub not_not: Set,
 }
 
+/// The constraints of pairs: each is one "with both atoms plain".
+pub fn of_pairs(pairs: &[Pair]) -> Vec<Objective> {
+    pairs.iter().map(|&[one, other]| Objective { plain: 1 << one | 1 << other, ..Objective::default() }).collect()
+}
+
 /// The constraints of day masks, in and out: "for each in-atom a constraint "← not a", for each out-atom "← a"".
-pub fn constraints([in_atoms, out_atoms]: [Set; 2]) -> Vec<Objective> {
+pub fn of_masks([in_atoms, out_atoms]: [Set; 2]) -> Vec<Objective> {
     let not = members(in_atoms).map(|atom| Objective { not: 1 << atom, ..Objective::default() });
     let plain = members(out_atoms).map(|atom| Objective { plain: 1 << atom, ..Objective::default() });
     not.chain(plain).collect()

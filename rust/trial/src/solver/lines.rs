@@ -4,9 +4,9 @@ use super::calls::{open, Opened};
 use super::refusal::Refusal;
 use super::{members, Set};
 
-/// All lines for the bytes that come in: "its first 1,222 bytes decide".
+/// All lines for the bytes that come in: "the program reads up to 1,237 bytes".
 pub fn lines(input: &[u8]) -> Vec<u8> {
-    let sheet = &input[..input.len().min(1_222)];
+    let sheet = &input[..input.len().min(1_237)];
     match open(sheet) {
         Ok(opened) => accepted(&opened),
         Err(Refusal { number, place }) => format!("refused {number} {place}\n").into_bytes(),

@@ -1,19 +1,19 @@
 //! The verdict on a guess, the world views of a sheet and the six counts.
 
-use super::guess::{constraints, guess_of, negations, reduct, Guess, Negation, Objective};
+use super::guess::{guess_of, negations, of_masks, of_pairs, reduct, Guess, Negation, Objective};
 use super::ruling::is_contradicted;
 use super::sheet::{Rule, Sheet};
 use super::stable::stable_sets;
 use super::{has, within, Set};
 use std::cmp::Ordering;
 
-/// The rules of a sheet with their epistemic negations, and the constraints of the day.
+/// The rules of a sheet with their epistemic negations, and the constraints of its pairs and of the day.
 #[derive(Clone, Debug)]
 pub struct Program {
     pub atoms: usize,
     pub rules: Vec<Rule>,
     pub negations: Vec<Negation>,
-    constraints: Vec<Objective>,
+    pub constraints: Vec<Objective>,
 }
 
 /// The verdict on a guess.
@@ -48,18 +48,21 @@ pub struct Listing {
 }
 
 impl Program {
+    /// The rules and the pairs of a sheet.
     pub fn of(sheet: &Sheet) -> Self {
-        Program::new(sheet.names.len(), sheet.rules.clone())
+        let rules = sheet.rules.clone();
+        Program { atoms: sheet.names.len(), negations: negations(&rules), rules, constraints: of_pairs(&sheet.pairs) }
     }
 
-    /// Rules over so many atoms; the negations are numbered from these.
-    pub fn new(atoms: usize, rules: Vec<Rule>) -> Self {
-        Program { atoms, negations: negations(&rules), rules, constraints: vec![] }
+    /// With these rules in place of its own, from which the negations are numbered; the constraints stay.
+    pub fn with_rules(&self, rules: Vec<Rule>) -> Self {
+        Program { negations: negations(&rules), rules, ..self.clone() }
     }
 
-    /// The same rules under day masks, in and out.
-    pub fn under(self, masks: [Set; 2]) -> Self {
-        Program { constraints: constraints(masks), ..self }
+    /// The same under day masks, in and out.
+    pub fn under(mut self, masks: [Set; 2]) -> Self {
+        self.constraints.extend(of_masks(masks));
+        self
     }
 
     /// The program of a guess: the reduct of the rules, and the constraints as further rules.

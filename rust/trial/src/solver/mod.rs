@@ -1,8 +1,9 @@
-//! The second solver: every call of document 01 and of K1, K3 and K5 of document 02, from their definitions.
+//! The second solver: every call of document 01 and of K1, K3, K5 and K7 of document 02, from their definitions.
 //!
 //! Stable sets come from a branching search with propagation, minimality from a second search for a smaller model;
 //! every guess is judged by itself, and world views are the verified guesses that are maximal among all verified ones.
-//! A calendar is walked through the week minute by minute. Day masks become constraints, which are rules like others.
+//! A calendar is walked through the week minute by minute. Pairs and day masks become constraints, which are rules like
+//! others.
 
 pub mod calendar;
 pub mod calls;

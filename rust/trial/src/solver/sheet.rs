@@ -1,4 +1,4 @@
-//! The reader of sheets: what a sheet says, or the first refusal of 1 to 6 in reading order.
+//! The reader of sheets: what a sheet says, or the first refusal of 1 to 6 and 15 in reading order.
 
 use super::reader::Reader;
 use super::refusal::Refusal;
@@ -7,11 +7,15 @@ use super::Set;
 /// The masks of a rule: head, plain, not, not not, K, not K, M, not M.
 pub type Rule = [Set; 8];
 
+/// Opposites: the numbers of two atoms.
+pub type Pair = [u8; 2];
+
 /// What an accepted sheet says.
 #[derive(Clone, Debug)]
 pub struct Sheet {
     pub names: Vec<Vec<u8>>,
     pub rules: Vec<Rule>,
+    pub pairs: Vec<Pair>,
 }
 
 /// Reads a whole sheet.
@@ -24,8 +28,13 @@ pub fn read(bytes: &[u8]) -> Result<Sheet, Refusal> {
     }
     let count = reader.count(64)?;
     let rules = (0..count).map(|_| rule(&mut reader, names.len())).collect::<Result<_, _>>()?;
+    let mut pairs = Vec::new();
+    for _ in 0..reader.count(7)? {
+        let pair = pair(&mut reader, names.len(), &pairs)?;
+        pairs.push(pair);
+    }
     reader.end()?;
-    Ok(Sheet { names, rules })
+    Ok(Sheet { names, rules, pairs })
 }
 
 fn name(reader: &mut Reader, earlier: &[Vec<u8>]) -> Result<Vec<u8>, Refusal> {
@@ -56,6 +65,19 @@ fn rule(reader: &mut Reader, atoms: usize) -> Result<Rule, Refusal> {
         }
     }
     Ok(rule)
+}
+
+/// "15 with the pair's place, for an atom number not below the atom count, one atom twice in a pair or an atom of an
+/// earlier pair".
+fn pair(reader: &mut Reader, atoms: usize, earlier: &[Pair]) -> Result<Pair, Refusal> {
+    let place = reader.at;
+    let bytes = reader.field(2)?;
+    let pair = [bytes[0], bytes[1]];
+    let is_bad = |atom: &u8| usize::from(*atom) >= atoms || earlier.as_flattened().contains(atom);
+    if pair[0] == pair[1] || pair.iter().any(is_bad) {
+        return Err(Refusal::new(15, place));
+    }
+    Ok(pair)
 }
 
 /// "Bytes from a-z, 0-9 and `_`, the first from a-z."
