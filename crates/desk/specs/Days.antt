@@ -1,6 +1,6 @@
--- The desk call under the day's masks: what it owes (document 02, K3). Assumes nothing.
+-- The desk call under the day's masks: what it owes (document 02, K3 and K7). Assumes nothing.
 use Prim.Native.Nat.{ℕ, _+_, _*_, _/_, _<_}
-use mathlib.Core.Path.{_≡_, refl, sym, ap, ap₂, _∙_}
+use mathlib.Core.Path.{_≡_, refl, ap, ap₂, _∙_}
 use mathlib.Core.List.{List}
 use mathlib.Core.Logic.{⊎-elim}
 use native.Mathlib.Omega.{arith}

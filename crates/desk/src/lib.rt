@@ -13,7 +13,7 @@ ghost use Rattle.desk.specs.Demand3.{DeskDemand};
 ghost use Rattle.desk.specs.Days.{DeskDay};
 
 // The listing under the day's masks, the atoms that are in and those that are out: the six counts and then a record for each world view, into
-// a lent buffer. Answers 0, or the number of the refusal times 65,536 plus its place: 1 to 7, 13, then 9.
+// a lent buffer. Answers 0, or the number of the refusal times 65,536 plus its place: 1 to 7 and 15, 13, then 9.
 #[no_mangle]
 pub extern "C" fn budkarv_list(sheet: &[u8], ins: u16, outs: u16, bytes: &mut [u8]) -> u32
     ensures { λ r. ⌜ r ≡ deskNumber (deskCall (ofDay (now (sheet .entry)) ins outs) (length (now (bytes .entry)))) ⌝ }

@@ -1,13 +1,13 @@
--- A sheet that is opened and then its calendar, and the rules in force that are loaded: the source at a minute. Assumes nothing.
-use Prim.Native.Nat.{ℕ, _*_, _≤_, _<_}
+-- A sheet that is opened and then its calendar, and the rules in force and the pairs that are loaded: the source at a minute. Assumes nothing.
+use Prim.Native.Nat.{ℕ, _+_, _*_, _≤_, _<_}
 use mathlib.Core.Path.{_≡_, refl, sym, ap, ap₂, _∙_, subst}
-use mathlib.Core.List.{List, [], map}
+use mathlib.Core.List.{List, [], _++_, map}
 use mathlib.Core.Logic.{inl, inr}
 use native.Mathlib.Omega.{arith}
-use lib.ListN.{length, getD, length-map}
+use lib.ListN.{length, getD}
 use Rattle.sets.specs.Decides.{dec-one, dec-iff, dec-self}
-use Rattle.sets.specs.Lists.{upTo, among-upTo, length-upTo, map-keep-same}
-use Rattle.sets.specs.Sets.{_∈?_, ∅, AllBelow}
+use Rattle.sets.specs.Lists.{all-append, upTo, among-upTo, map-keep-same}
+use Rattle.sets.specs.Sets.{_∈?_, ∅, Below, AllBelow}
 use Rattle.sets.specs.Members.{dec-∈}
 use Rattle.semantics.specs.Definitions.Sheet.{Sheet, atoms, ruleOfMasks, mostAtoms, mostRules}
 use Rattle.semantics.specs.Definitions.Setting.{settingOf, k}
@@ -15,19 +15,19 @@ use Rattle.semantics.specs.Definitions.Check.{mostNegations, setting, opened}
 use Rattle.semantics.specs.Definitions.Calendar.{Entry, lastMinute, mostEntries, calendarOf, inForce, atMinute, rulesInForce, minutesOfChange, ofMinute, changesCall}
 use Rattle.semantics.specs.Definitions.Returned.{accepted, refusal}
 use Rattle.semantics.specs.Definitions.Day.{under}
-use Rattle.semantics.specs.Words.{programRoom, rulesIn}
+use Rattle.semantics.specs.Words.{programRoom, pairsWritten, rulesIn}
 use Rattle.semantics.specs.Theorems.Accepted.{accepted-read}
 use Rattle.semantics.specs.Theorems.Returned.{fits-limited, short-limited}
 use Rattle.semantics.specs.Theorems.CalendarExact.{calendar-read}
 use Rattle.semantics.specs.Theorems.InForce.{AllProper, ∈-rulesInForce}
 use Rattle.semantics.specs.Theorems.Minute.{minute-fits}
+use Rattle.semantics.specs.Theorems.Opposites.{opposed-below, pairs-as-rules}
 use Rattle.semantics.specs.Theorems.Day.{under-nothing}
 use Rattle.semantics.specs.Theorems.CalendarCalls.{Both, TurnedAway, minute-given, minute-refused, changes-given}
 use Rattle.sheet.specs.declared.Contents.{Contents}
 use Rattle.sheet.specs.declared.Opened.the-variants as answers
-use Rattle.sheet.specs.Opened.{contents, openedOf, opened-as, opened-refused}
-use Rattle.sheet.specs.Fetched.{RulesBegin}
-use Rattle.sheet.specs.Loaded.{LoadsOnly}
+use Rattle.sheet.specs.Opened.{contents, openedOf, opened-as, opened-refused, Holds}
+use Rattle.opened.specs.Loaded.{LoadsOnly}
 use Rattle.calendar.specs.declared.entries.Step.{Step}
 use Rattle.calendar.specs.declared.entries.Step.the-variants as steps
 use Rattle.calendar.specs.Entries.{entriesIn, Entries}
@@ -38,6 +38,7 @@ use Rattle.engine.specs.declared.source.Source.the-variants.{Accepted, R
 use Rattle.engine.specs.declared.minute.Scheduled.{Scheduled}
 use Rattle.engine.specs.declared.minute.Scheduled.the-variants as schedules
 use Rattle.engine.specs.Sources.{Reads, ReadsBoth}
+use Rattle.engine.proofs.Opened.{few-loaded}
 
 -- ---- a sheet, and then a calendar
 module _ (s c words : List ℕ) where
@@ -86,7 +87,7 @@ module _ (s c entries : List ℕ) (r : Scheduled) (h : ReadsBoth s c r entries) 
     same-entries = both .5
 
     pub few-said : x .rules ≤ mostRules
-    few-said = subst (λ z. z .rules ≤ mostRules) (sym is) (accepted-read s sheet-said (accepts .end) (accepts .opens) .0 .few-rules)
+    few-said = subst (λ z. z .rules ≤ mostRules) (sym is) (accepted-read s sheet-said (accepts .end) (accepts .opens) .0 .front-read .few-rules)
 
     pub entries-stand : 3 * mostEntries ≤ length entries → Entries (x .rules) entries n
     unfolding entries-read
@@ -99,8 +100,8 @@ module _ (s c entries : List ℕ) (r : Scheduled) (h : ReadsBoth s c r entries) 
           all-proper = subst (AllProper (x .rules)) (sym same-entries) good;
         }
 
-    pub begins : RulesBegin s (x .«rules_at») (x .rules)
-    begins = (sheet-said, accepts .end, accepts .opens, ap (λ z. z .«rules_at») is, ap (λ z. z .rules) is)
+    pub holds : Holds s x
+    holds = (sheet-said, accepts .end, accepts .opens, is)
 
     -- ---- at a minute
     module _ (minute : ℕ) where
@@ -108,8 +109,8 @@ module _ (s c entries : List ℕ) (r : Scheduled) (h : ReadsBoth s c r entries) 
       minute-over words l = minute-refused s c minute 12 0 .1 (inr (sheet-said, entries-read, accepts, l, refl, refl))
 
       -- the rules in force were loaded
-      module _ (words : List ℕ) (set kept : ℕ) (force : set ≡ rulesInForce (entriesIn entries n) (x .rules) minute) (loads : LoadsOnly s set kept words)
-          (room : 8 * programRoom ≤ length words) where
+      module _ (words : List ℕ) (set kept : ℕ) (force : set ≡ rulesInForce (entriesIn entries n) (x .rules) minute) (few-kept : kept ≤ x .rules + x .pairs)
+          (loads : LoadsOnly s set kept words) (room : 8 * programRoom ≤ length words) where
         left : Sheet
         left = atMinute entries-read minute sheet-said
 
@@ -121,36 +122,37 @@ module _ (s c entries : List ℕ) (r : Scheduled) (h : ReadsBoth s c r entries) 
             let both = ∈-rulesInForce entries-read (length (sheet-said .rules)) minute i in
             ap (λ z. i ∈? z) forced ∙ dec-one (dec-∈ i _) (dec-iff (λ e. both .1 (l, e), λ m. both .0 m .1) (dec-self (inForce entries-read minute i)))
 
-        rules-left : rulesIn words kept ≡ left .rules
+        rules-left : rulesIn words kept ≡ left .rules ++ pairsWritten (left .pairs)
         unfolding left
         rules-left =
             loads sheet-said (accepts .end) (accepts .opens)
-            ∙ map-keep-same (λ i. i ∈? set) (inForce entries-read minute) (λ i. getD (sheet-said .rules) i []) (λ i. getD (sheet-said .rules) i [])
-            (upTo (length (sheet-said .rules))) (λ i m. (chosen i (among-upTo (length (sheet-said .rules)) .0 m), refl))
+            ∙ ap (λ rules. rules ++ pairsWritten (sheet-said .pairs))
+            (map-keep-same (λ i. i ∈? set) (inForce entries-read minute) (λ i. getD (sheet-said .rules) i []) (λ i. getD (sheet-said .rules) i [])
+            (upTo (length (sheet-said .rules))) (λ i m. (chosen i (among-upTo (length (sheet-said .rules)) .0 m), refl)))
 
         same-atoms : x .atoms ≡ atoms sheet-said
         same-atoms = ap (λ z. z .atoms) is
 
-        few-left : kept ≤ mostRules
-        unfolding left rulesIn
-        few-left =
-            let many : length (rulesIn words kept) ≡ kept = length-map (upTo kept) _ ∙ length-upTo kept in
-            let fits = minute-fits entries-read minute sheet-said s (accepts .end) (accepts .opens) in
-            omega (arith, ap length rules-left, fits .few-rules)
-
         means : settingOf (x .atoms) (map ruleOfMasks (rulesIn words kept)) ≡ setting left
         unfolding left
-        means = ap₂ (λ a rules. settingOf a (map ruleOfMasks rules)) same-atoms rules-left
+        means = ap₂ (λ a rules. settingOf a (map ruleOfMasks rules)) same-atoms rules-left ∙ pairs-as-rules left
+
+        all-below : AllBelow (atoms sheet-said) (left .rules ++ pairsWritten (left .pairs))
+        unfolding left
+        all-below =
+            let fits = minute-fits entries-read minute sheet-said s (accepts .end) (accepts .opens) in
+            all-append (Below (atoms sheet-said)) (left .rules) (fits .front-fits .masks-below) (opposed-below (atoms sheet-said) (sheet-said .pairs) (fits .disjoint .below))
 
         pub within-left : WithinLimits (x .atoms) kept words
         unfolding left
         within-left =
-            let fits = minute-fits entries-read minute sheet-said s (accepts .end) (accepts .opens) in
+            let fits = minute-fits entries-read minute sheet-said s (accepts .end) (accepts .opens) .front-fits in
+            let few : kept ≤ programRoom = omega (arith, few-kept, few-loaded s holds) in
             record {
               few-atoms = subst (λ a. a ≤ mostAtoms) (sym same-atoms) (fits .few-names);
-              few-rules = few-left;
-              stand = omega (arith, few-left, room);
-              below = subst (AllBelow (x .atoms)) (sym rules-left) (subst (λ a. AllBelow a (left .rules)) (sym same-atoms) (fits .masks-below));
+              few-rules = few;
+              stand = omega (arith, few, room);
+              below = subst (AllBelow (x .atoms)) (sym rules-left) (subst (λ a. AllBelow a (left .rules ++ pairsWritten (left .pairs))) (sym same-atoms) all-below);
               few-negations = subst (λ z. k z ≤ mostNegations) (sym means) (fits .few-negations);
             }
 

@@ -39,6 +39,7 @@ use Rattle.engine.specs.Demand2.{VerdictDemand, verdict-demand, SetsDema
 use Rattle.engine.specs.Demand3.{AsListed, ListingDemand, listing-demand}
 use Rattle.engine.specs.Queries.{QueryDemand, query-demand}
 use Rattle.engine.specs.Hours.{MinuteDemand, minute-demand, ChangesDemand, changes-demand}
+use Rattle.engine.specs.Opposites.{SetsOpposites, sets-opposites}
 use Rattle.engine.specs.Days.{AsCounted, VerdictDay, verdict-day, SetsDay, sets-day, ListingDay, listing-day, QueryDay, query-day}
 
 -- ---- what was read
@@ -159,8 +160,10 @@ module _ (sheet : List ℕ) (ins outs : ℕ) where
 
   pub sets-met : (g : ℕ) (before : List ℕ) (r : Counted) (after : List ℕ) → AsCounted from g r before after
       → (counted r ≡ answer length (beliefSetsCall from g (length before)))
-      × ((after ≡ afterwards (λ w. w) (beliefSetsCall from g (length before)) before) × (SetsDemand from g r before after × SetsDay sheet ins outs g r before after))
-  sets-met g before r after p = (p .0, (p .1, (sets-demand from g r before after (p .0) (p .1), sets-day sheet ins outs g r before after p)))
+      × ((after ≡ afterwards (λ w. w) (beliefSetsCall from g (length before)) before) × (SetsDemand from g r before after × (SetsDay sheet ins outs g r before after × SetsOpposites sheet r after)))
+  sets-met g before r after p =
+      let demand = sets-demand from g r before after (p .0) (p .1) in
+      (p .0, (p .1, (demand, (sets-day sheet ins outs g r before after p, sets-opposites sheet ins outs g r before after demand))))
 
   pub query-met : (a : ℕ) (q : Queried) → queried q ≡ queryCall from a → (queried q ≡ queryCall from a) × (QueryDemand from a q × QueryDay sheet ins outs a q)
   query-met a q e = (e, (query-demand from a q e, query-day sheet ins outs a q e))

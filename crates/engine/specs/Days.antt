@@ -1,4 +1,4 @@
--- The calls under the day's masks: what each owes (document 02, K3). Assumes nothing.
+-- The calls under the day's masks: what each owes (document 02, K3 and K7). Assumes nothing.
 use Prim.Native.Nat.{ℕ}
 use mathlib.Core.Path.{_≡_, sym, ap, _∙_}
 use mathlib.Core.List.{List}

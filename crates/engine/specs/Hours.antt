@@ -11,12 +11,13 @@ use Rattle.sets.specs.Decides.{is-true}
 use Rattle.sets.specs.Lists.{_among_}
 use Rattle.sets.specs.Pairwise.{Pairwise}
 use Rattle.semantics.specs.Definitions.Reading.{field}
-use Rattle.semantics.specs.Definitions.Sheet.{Sheet}
+use Rattle.semantics.specs.Definitions.Sheet.{Sheet, twoSections}
 use Rattle.semantics.specs.Definitions.Setting.{Setting}
 use Rattle.semantics.specs.Definitions.Check.{opened, ofSheet}
 use Rattle.semantics.specs.Definitions.Returned.{Returned, refusal, accepted, answer, afterwards}
 use Rattle.semantics.specs.Definitions.Calendar.{lastMinute, mostEntries, Entry, inForce, atMinute, minutesOfChange, ofMinute, changesCall}
 use Rattle.semantics.specs.Theorems.Layout.{sheetBytes}
+use Rattle.semantics.specs.Theorems.TwoSections.{two-sections-short}
 use Rattle.semantics.specs.Theorems.Check.{Refuses, opened-refuses}
 use Rattle.semantics.specs.Theorems.Returned.{fits-limited, short-limited, answer-accepted, answer-refused}
 use Rattle.semantics.specs.Theorems.InForce.{Holds, WhereHolds, dec-in-force-proper}
@@ -50,14 +51,17 @@ pub record CalendarDemand (sheet calendar : List ℕ) : Type 0 where
 pub record MinuteDemand (sheet calendar : List ℕ) (minute : ℕ) (r : Listed) (before after : List ℕ) : Type 0 where
   -- "The whole sheet is checked first, 7 included and with all its rules counted": as `check` refuses it
   pub sheet-first : (number place : ℕ) → Refuses sheet number place → r ≡ listings.Refused number place
+  -- K7: "a two-section sheet gives 1"
+  pub two-sections : (x : Sheet) (end : ℕ) → twoSections sheet ≡ field x end → r ≡ listings.Refused 1 (length sheet)
   -- "Then comes the calendar": no count byte, over 64 entries, an entry cut short, a bad entry, extra bytes, each with its number and place
   pub then-calendar : (x : Sheet) (end : ℕ) → opened sheet ≡ field x end → (number place : ℕ) → CalendarRefuses calendar (length (x .rules)) number place
       → r ≡ listings.Refused number place
   -- "12, place 0, for an asked minute over 10079, after the calendar and before 9"
   pub then-minute : (x : Sheet) (es : List Entry) → Both sheet calendar x es → lastMinute < minute → r ≡ listings.Refused 12 0
-  -- "Listing at a minute is the listing of the sheet with only the rules in force": what `list` answers on its bytes, and leaves
+  -- "Listing at a minute is the listing of the sheet with only the rules in force": what `list` answers on its bytes, and leaves; the pairs
+  -- stand "at every minute" (K7)
   pub as-list-answers : (x : Sheet) (es : List Entry) → Both sheet calendar x es → minute ≤ lastMinute
-      → AsListed (ofSheet (sheetBytes (x .names) (atMinute es minute x .rules))) r before after
+      → AsListed (ofSheet (sheetBytes (x .names) (atMinute es minute x .rules) (x .pairs))) r before after
   -- without entries, what `list` answers on the sheet
   pub no-entry : calendar ≡ 0 ∷ [] → minute ≤ lastMinute → AsListed (ofSheet sheet) r before after
   pub calendar-demanded : CalendarDemand sheet calendar
@@ -92,6 +96,7 @@ pub record ChangesDemand (sheet calendar : List ℕ) (r : Counted) (before after
   pub calendar-demanded : CalendarDemand sheet calendar
   pub minutes-written : (n : ℕ) → r ≡ Accepted n → MinutesWritten sheet calendar n before after
   pub sheet-first : (number place : ℕ) → Refuses sheet number place → r ≡ Refused number place
+  pub two-sections : (x : Sheet) (end : ℕ) → twoSections sheet ≡ field x end → r ≡ Refused 1 (length sheet)
   pub then-calendar : (x : Sheet) (end : ℕ) → opened sheet ≡ field x end → (number place : ℕ) → CalendarRefuses calendar (length (x .rules)) number place
       → r ≡ Refused number place
   -- "The list of minutes gets 9 with its length when the buffer is short", and only then
@@ -141,6 +146,7 @@ module _ (sheet calendar : List ℕ) (minute : ℕ) (r : Listed) (before after :
   minute-demand = record {
     sheet-first = λ number place h. refuses (minute-refused sheet calendar minute number place .1 (inl (inl (opened-refuses sheet number place .1 h))));
     then-calendar = λ x end o number place h. refuses (minute-refused sheet calendar minute number place .1 (inl (refuses-calendar sheet calendar x end o number place h)));
+    two-sections = λ x end e. refuses (minute-refused sheet calendar minute 1 (length sheet) .1 (inl (inl (two-sections-short sheet x end e))));
     then-minute = λ x es b l. refuses (minute-refused sheet calendar minute 12 0 .1 (inr (x, es, b, l, refl, refl)));
     as-list-answers = λ x es b l. of-source (as-list sheet calendar minute b l);
     no-entry = λ e l. of-source (ap (λ c. ofMinute sheet c minute) e ∙ empty-calendar sheet minute l);
@@ -192,6 +198,7 @@ module _ (sheet calendar : List ℕ) (r : Counted) (before after : List ℕ)
     calendar-demanded = calendar-demand sheet calendar;
     minutes-written = written;
     sheet-first = λ number place h. turned-back (inl (opened-refuses sheet number place .1 h));
+    two-sections = λ x end e. turned-back (inl (two-sections-short sheet x end e));
     then-calendar = λ x end o number place h. turned-back (refuses-calendar sheet calendar x end o number place h);
     too-many = λ x es b l.
         let w = minutesOfChange es (length (x .rules)) in

@@ -6,4 +6,5 @@ pub mod Demand3
 pub mod Queries
 pub mod Hours
 pub mod Days
+pub mod Opposites
 pub mod Sources

@@ -37,6 +37,7 @@ ghost use Rattle.engine.specs.Demand3.{ListingDemand};
 ghost use Rattle.engine.specs.Queries.{QueryDemand};
 ghost use Rattle.engine.specs.Hours.{MinuteDemand, ChangesDemand};
 ghost use Rattle.engine.specs.Days.{VerdictDay, SetsDay, ListingDay, QueryDay};
+ghost use Rattle.engine.specs.Opposites.{SetsOpposites};
 
 // What the check answers: the numbers of atoms, of rules and of negations, or a refusal by its number and place.
 pub enum Checked {
@@ -102,7 +103,7 @@ pub enum Queried {
     Refused { number: u8, place: usize },
 }
 
-// Checks a sheet: refusals 1 to 7.
+// Checks a sheet: refusals 1 to 7 and 15.
 pub fn check(sheet: &[u8]) -> Checked
     ensures { λ r. ⌜ checked r ≡ checkOf (now (sheet .entry)) ⌝ }
     ensures { λ r. ⌜ CheckDemand (now (sheet .entry)) r ⌝ }
@@ -117,13 +118,13 @@ pub fn check(sheet: &[u8]) -> Checked
     }
 }
 
-// The verdict on a guess under the day's masks, the atoms that are in and those that are out: refusals 1 to 7, 13, then 8.
+// The verdict on a guess under the day's masks, the atoms that are in and those that are out: refusals 1 to 7 and 15, 13, then 8.
 pub fn verdict(sheet: &[u8], ins: u16, outs: u16, guess: u32) -> Judged
     ensures { λ r. ⌜ judged r ≡ verdictCall (ofDay (now (sheet .entry)) ins outs) guess ⌝ }
     ensures { λ r. ⌜ VerdictDemand (ofDay (now (sheet .entry)) ins outs) guess r ⌝ }
     ensures { λ r. ⌜ VerdictDay (now (sheet .entry)) ins outs guess r ⌝ }
 {
-    let mut words = [0u16; 512];
+    let mut words = [0u16; 568];
     let source = of_day(sheet, ins, outs, &mut words[..]);
     match for_guess(source, guess) {
         Source::Accepted(x) => match verdict_on(&words[..], x, guess as u16) {
@@ -139,14 +140,15 @@ pub fn verdict(sheet: &[u8], ins: u16, outs: u16, guess: u32) -> Judged
     }
 }
 
-// The belief sets of a guess under the day's masks, by rising number, into a lent buffer: refusals 1 to 7, 13, 8, then 9.
+// The belief sets of a guess under the day's masks, by rising number, into a lent buffer: refusals 1 to 7 and 15, 13, 8, then 9.
 pub fn belief_sets(sheet: &[u8], ins: u16, outs: u16, guess: u32, out: &mut [u16]) -> Counted
     ensures { λ r. ⌜ counted r ≡ answer length (beliefSetsCall (ofDay (now (sheet .entry)) ins outs) guess (length (now (out .entry)))) ⌝ }
     ensures { λ r. ⌜ now (out .exit) ≡ afterwards (λ w. w) (beliefSetsCall (ofDay (now (sheet .entry)) ins outs) guess (length (now (out .entry)))) (now (out .entry)) ⌝ }
     ensures { λ r. ⌜ SetsDemand (ofDay (now (sheet .entry)) ins outs) guess r (now (out .entry)) (now (out .exit)) ⌝ }
     ensures { λ r. ⌜ SetsDay (now (sheet .entry)) ins outs guess r (now (out .entry)) (now (out .exit)) ⌝ }
+    ensures { λ r. ⌜ SetsOpposites (now (sheet .entry)) r (now (out .exit)) ⌝ }
 {
-    let mut words = [0u16; 512];
+    let mut words = [0u16; 568];
     let source = of_day(sheet, ins, outs, &mut words[..]);
     match for_guess(source, guess) {
         Source::Accepted(x) => {
@@ -166,31 +168,31 @@ pub fn belief_sets(sheet: &[u8], ins: u16, outs: u16, guess: u32, out: &mut [u16
 }
 
 // The listing under the day's masks: a record of four words for each world view, in the order, into a lent buffer, and the six counts.
-// Refusals 1 to 7, 13, then 9.
+// Refusals 1 to 7 and 15, 13, then 9.
 pub fn list(sheet: &[u8], ins: u16, outs: u16, out: &mut [u16]) -> Listed
     ensures { λ r. ⌜ listed r ≡ answer (λ v. v .tally) (listCall (ofDay (now (sheet .entry)) ins outs) (length (now (out .entry)))) ⌝ }
     ensures { λ r. ⌜ now (out .exit) ≡ afterwards recordsOf (listCall (ofDay (now (sheet .entry)) ins outs) (length (now (out .entry)))) (now (out .entry)) ⌝ }
     ensures { λ r. ⌜ ListingDemand (ofDay (now (sheet .entry)) ins outs) r (now (out .entry)) (now (out .exit)) ⌝ }
     ensures { λ r. ⌜ ListingDay (now (sheet .entry)) ins outs r (now (out .entry)) (now (out .exit)) ⌝ }
 {
-    let mut words = [0u16; 512];
+    let mut words = [0u16; 568];
     let source = of_day(sheet, ins, outs, &mut words[..]);
     list_from(source, &words[..], &mut out[..])
 }
 
-// The listing at a minute: that of the sheet with only the rules in force. Refusals 1 to 7 of the whole sheet, then 1, 2, 11 and 6 of the
+// The listing at a minute: that of the sheet with only the rules in force, and all its pairs. Refusals 1 to 7 and 15 of the whole sheet, then 1, 2, 11 and 6 of the
 // calendar, then 12, then 9.
 pub fn list_at(sheet: &[u8], calendar: &[u8], minute: u32, out: &mut [u16]) -> Listed
     ensures { λ r. ⌜ listed r ≡ answer (λ v. v .tally) (listCall (ofMinute (now (sheet .entry)) (now (calendar .entry)) minute) (length (now (out .entry)))) ⌝ }
     ensures { λ r. ⌜ now (out .exit) ≡ afterwards recordsOf (listCall (ofMinute (now (sheet .entry)) (now (calendar .entry)) minute) (length (now (out .entry)))) (now (out .entry)) ⌝ }
     ensures { λ r. ⌜ MinuteDemand (now (sheet .entry)) (now (calendar .entry)) minute r (now (out .entry)) (now (out .exit)) ⌝ }
 {
-    let mut words = [0u16; 512];
+    let mut words = [0u16; 568];
     let source = at_minute(sheet, calendar, minute, &mut words[..]);
     list_from(source, &words[..], &mut out[..])
 }
 
-// The minutes of change, rising, into a lent buffer. Refusals 1 to 7 of the sheet, then 1, 2, 11 and 6 of the calendar, then 9.
+// The minutes of change, rising, into a lent buffer. Refusals 1 to 7 and 15 of the sheet, then 1, 2, 11 and 6 of the calendar, then 9.
 pub fn changes(sheet: &[u8], calendar: &[u8], out: &mut [u16]) -> Counted
     ensures { λ r. ⌜ counted r ≡ answer length (changesCall (now (sheet .entry)) (now (calendar .entry)) (length (now (out .entry)))) ⌝ }
     ensures { λ r. ⌜ now (out .exit) ≡ afterwards (λ w. w) (changesCall (now (sheet .entry)) (now (calendar .entry)) (length (now (out .entry)))) (now (out .entry)) ⌝ }
@@ -214,13 +216,13 @@ pub fn changes(sheet: &[u8], calendar: &[u8], out: &mut [u16]) -> Counted
     }
 }
 
-// The query of an atom under the day's masks: refusals 1 to 7, 13, then 10.
+// The query of an atom under the day's masks: refusals 1 to 7 and 15, 13, then 10.
 pub fn query(sheet: &[u8], ins: u16, outs: u16, atom: u32) -> Queried
     ensures { λ r. ⌜ queried r ≡ queryCall (ofDay (now (sheet .entry)) ins outs) atom ⌝ }
     ensures { λ r. ⌜ QueryDemand (ofDay (now (sheet .entry)) ins outs) atom r ⌝ }
     ensures { λ r. ⌜ QueryDay (now (sheet .entry)) ins outs atom r ⌝ }
 {
-    let mut words = [0u16; 512];
+    let mut words = [0u16; 568];
     let source = of_day(sheet, ins, outs, &mut words[..]);
     match for_atom(source, atom) {
         Source::Accepted(x) => {

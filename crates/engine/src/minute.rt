@@ -4,9 +4,9 @@ use calendar::Step;
 use calendar::in_force;
 use calendar::read;
 use guess::outline::outline_of;
+use opened::load_only;
 use sheet::Contents;
 use sheet::Opened;
-use sheet::load_only;
 use sheet::open;
 ghost use mathlib.Core.Path.{_≡_};
 ghost use Prim.Native.Nat.{_*_, _≤_};
@@ -21,7 +21,7 @@ pub enum Scheduled {
     Refused(u8, usize),
 }
 
-// Reads the whole sheet, refusals 1 to 7, and then the calendar: 1, 2, 11 and 6.
+// Reads the whole sheet, refusals 1 to 7 and 15, and then the calendar: 1, 2, 11 and 6.
 pub fn with_calendar(sheet: &[u8], calendar: &[u8], entries: &mut [u16]) -> Scheduled
     requires { ⌜ 3 * mostEntries ≤ length (now entries) ⌝ }
     ensures { λ r. ⌜ length (now (entries .exit)) ≡ length (now (entries .entry)) ⌝ }
@@ -36,7 +36,7 @@ pub fn with_calendar(sheet: &[u8], calendar: &[u8], entries: &mut [u16]) -> Sche
     }
 }
 
-// Reads both, then refusal 12, then the rules in force alone.
+// Reads both, then refusal 12, then the rules in force and all pairs.
 pub fn at_minute(sheet: &[u8], calendar: &[u8], minute: u32, words: &mut [u16]) -> Source
     requires { ⌜ 8 * programRoom ≤ length (now words) ⌝ }
     ensures { λ r. ⌜ length (now (words .exit)) ≡ length (now (words .entry)) ⌝ }
@@ -49,7 +49,7 @@ pub fn at_minute(sheet: &[u8], calendar: &[u8], minute: u32, words: &mut [u16]) 
                 return Source::Refused(12, 0);
             }
             let set = in_force(&entries[..], n, x.rules, minute as u16);
-            let rules = load_only(sheet, x.rules_at, x.rules, set, &mut words[..]);
+            let rules = load_only(sheet, x, set, &mut words[..]);
             Source::Accepted(outline_of(&words[..], x.atoms, rules))
         }
         Scheduled::Refused(number, place) => Source::Refused(number, place),

@@ -1,10 +1,10 @@
 // The source of a call: the rules of a program with K and M in words of the call's own, eight a rule, and their outline; or the refusal that
-// comes before.
+// comes before. 568 words have room for 64 rules and 7 pairs.
 use guess::outline::Outline;
+use opened::load;
 use sets::meets;
 use sets::power;
 use sheet::Opened;
-use sheet::load;
 use sheet::open;
 ghost use mathlib.Core.Path.{_≡_};
 ghost use Prim.Native.Nat.{_*_, _≤_};
@@ -32,7 +32,7 @@ fn masks_fit(ins: u16, outs: u16, atoms: usize) -> bool
     ins_fit & outs_fit & !both
 }
 
-// Reads a sheet, refusals 1 to 7, and then judges the day's masks, 13. After this no byte of the sheet is looked at.
+// Reads a sheet, refusals 1 to 7 and 15, and then judges the day's masks, 13. After this no byte of the sheet is looked at.
 pub fn of_day(sheet: &[u8], ins: u16, outs: u16, words: &mut [u16]) -> Source
     requires { ⌜ 8 * programRoom ≤ length (now words) ⌝ }
     ensures { λ r. ⌜ length (now (words .exit)) ≡ length (now (words .entry)) ⌝ }
@@ -43,10 +43,10 @@ pub fn of_day(sheet: &[u8], ins: u16, outs: u16, words: &mut [u16]) -> Source
             if !masks_fit(ins, outs, x.atoms) {
                 return Source::Refused(13, 0);
             }
-            load(sheet, x.rules_at, x.rules, &mut words[..]);
+            let rules = load(sheet, x, &mut words[..]);
             Source::Accepted(Outline {
                 atoms: x.atoms,
-                rules: x.rules,
+                rules,
                 negations: x.negations,
                 k_atoms: x.k_atoms,
                 m_atoms: x.m_atoms,

@@ -81,7 +81,7 @@ pub fn examine(words: &[u16], x: Outline, guess: u16) -> Outcome
     requires { ⌜ Outlines x (now words) × (guess < 2 ^ x .negations) ⌝ }
     ensures { λ r. ⌜ ExaminedAs (settingIn x (now (words .entry))) guess (outcomeFrom r) ⌝ }
 {
-    let mut program = [0u16; 256];
+    let mut program = [0u16; 284];
     let rules = reduct(words, x, guess, &mut program[..]);
     if contradicted(&program[..], rules, x, guess) {
         return Outcome::Ruled;

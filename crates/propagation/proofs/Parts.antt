@@ -8,9 +8,8 @@ use mathlib.Core.Logic.{inl, inr, ⊎-elim}
 use Rattle.sets.specs.Decides.{Decides, dec-one, dec-iff, dec-or}
 use Rattle.sets.specs.Sets.{Meets}
 use Rattle.semantics.specs.Definitions.Rules.{Rule}
-use Rattle.semantics.specs.Definitions.Setting.{Setting}
+use Rattle.semantics.specs.Definitions.Setting.{Setting, add}
 use Rattle.semantics.specs.Definitions.Propagation.{Pair, contradicted}
-use Rattle.semantics.specs.Definitions.Day.{add}
 use Rattle.semantics.specs.Theorems.Closure.{LeastClosed, least-only}
 use Rattle.semantics.specs.Theorems.Apart.{never-meet}
 use Rattle.semantics.specs.Theorems.Contradicted.{EmptyHead, pairOf, ContradictedBy, dec-contradicted-by}

@@ -1,6 +1,3 @@
--- What several proofs cite: laws of steps and their readings, of the loops that take a step once a turn, what the walks of functions over an
--- opened sheet share, and rules as they are written in words.
+-- What several proofs cite: laws of steps and their readings, and of the loops that take a step once a turn.
 pub mod Laws
 pub mod Loops
-pub mod Held
-pub mod Loaded

@@ -1,4 +1,4 @@
--- The loops over names, masks and rules: each takes a step once a turn and hands on its cursor. Assumes nothing.
+-- The loops over names, masks, rules and pairs: each takes a step once a turn and hands on its cursor. Assumes nothing.
 use Prim.Native.Nat.{ℕ, suc, _+_, _-_, _≤_, _<_}
 use native.Mathlib.Omega.{arith}
 use native.Mathlib.Numerals.{add-one}

@@ -1,5 +1,3 @@
 -- What the answers of the code mean.
 pub mod Steps
 pub mod Opened
-pub mod Fetched
-pub mod Loaded

@@ -1,12 +1,13 @@
 -- What opening a sheet answers, and what the answer says. Assumes nothing.
 use Prim.Native.Nat.{ℕ}
 use mathlib.Core.Path.{_≡_, refl}
+use mathlib.Core.List.{List}
 use lib.ListN.{length}
 use Rattle.sets.specs.Decides.{unequal}
 use Rattle.semantics.specs.Definitions.Reading.{Reading, field, refused}
 use Rattle.semantics.specs.Definitions.Sheet.{Sheet, atoms}
 use Rattle.semantics.specs.Definitions.Setting.{k}
-use Rattle.semantics.specs.Definitions.Check.{setting}
+use Rattle.semantics.specs.Definitions.Check.{setting, opened}
 use Rattle.semantics.specs.Fields.{kAtoms, mAtoms}
 use Rattle.sheet.specs.declared.Contents.{Contents}
 use Rattle.sheet.specs.declared.Opened.{Opened}
@@ -17,6 +18,7 @@ abbrev pub contents : Sheet → Contents
 contents x = record {
   atoms = atoms x;
   rules = length (x .rules);
+  pairs = length (x .pairs);
   negations = k (setting x);
   «rules_at» = x .rulesAt;
   «k_atoms» = kAtoms (x .rules);
@@ -35,3 +37,7 @@ opened-as (refused number place) e = unequal cc
 pub opened-refused : (r : Reading Sheet) {number place : ℕ} → openedOf r ≡ Refused number place → r ≡ refused number place
 opened-refused (field x end) e = unequal cc
 opened-refused (refused n p) e = cc
+
+-- x is kept of the accepted sheet that the bytes are
+abbrev pub Holds : List ℕ → Contents → Type 0
+Holds s x = (y : Sheet) × (end : ℕ) × (opened s ≡ field y end) × (x ≡ contents y)

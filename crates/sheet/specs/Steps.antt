@@ -5,7 +5,7 @@ use mathlib.Core.List.{List, foldl}
 use lib.ListN.{length}
 use Rattle.sets.specs.Sets.{_∪_}
 use Rattle.semantics.specs.Definitions.Reading.{Reading, field, refused}
-use Rattle.semantics.specs.Definitions.Sheet.{Sheet, atoms, between}
+use Rattle.semantics.specs.Definitions.Sheet.{Opposites, Sheet, atoms, between}
 use Rattle.semantics.specs.Fields.{masksOf, kAtoms, mAtoms}
 use Rattle.sheet.specs.declared.steps.Cursor.{Cursor}
 use Rattle.sheet.specs.declared.steps.Field.{Field}
@@ -22,6 +22,7 @@ moved c at = record {
   at = at;
   atoms = c .atoms;
   rules = c .rules;
+  pairs = c .pairs;
   «rules_at» = c .«rules_at»;
   «k_atoms» = c .«k_atoms»;
   «m_atoms» = c .«m_atoms»;
@@ -29,7 +30,7 @@ moved c at = record {
 
 -- the cursor with other sets of atoms under K and under M
 abbrev pub withSets : Cursor → (k m : ℕ) → Cursor
-withSets c k m = record { at = c .at; atoms = c .atoms; rules = c .rules; «rules_at» = c .«rules_at»; «k_atoms» = k; «m_atoms» = m }
+withSets c k m = record { at = c .at; atoms = c .atoms; rules = c .rules; pairs = c .pairs; «rules_at» = c .«rules_at»; «k_atoms» = k; «m_atoms» = m }
 
 -- the cursor after rules with these masks
 abbrev pub noted : Cursor → List (List ℕ) → Cursor
@@ -39,13 +40,18 @@ noted c rules = withSets c (foldl _∪_ (c .«k_atoms») (masksOf 4 5 rules)) (f
 abbrev pub notedMask : ℕ → Cursor → ℕ → Cursor
 notedMask i c w = withSets c (cond (between 4 5 i) (c .«k_atoms» ∪ w) (c .«k_atoms»)) (cond (between 6 7 i) (c .«m_atoms» ∪ w) (c .«m_atoms»))
 
--- the cursor after the sections
+-- the cursor after the front, or after all sections
 abbrev pub cursorOf : Sheet → ℕ → Cursor
 cursorOf x end = record {
   at = end;
   atoms = atoms x;
   rules = length (x .rules);
+  pairs = length (x .pairs);
   «rules_at» = x .rulesAt;
   «k_atoms» = kAtoms (x .rules);
   «m_atoms» = mAtoms (x .rules);
 }
+
+-- two atoms as a pair
+abbrev pub opposites : (first second : ℕ) → Opposites
+opposites first second = record { first = first; second = second }

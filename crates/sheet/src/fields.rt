@@ -1,4 +1,4 @@
-// What names, rules and the entries of a calendar share: the presence of bytes, and words; and counts.
+// What names, rules, pairs and the entries of a calendar share: the presence of bytes, and words; and counts.
 use super::steps::Cursor;
 use super::steps::Field;
 ghost use mathlib.Core.Path.{_≡_};

@@ -1,30 +1,25 @@
-// A sheet, opened: whether it is accepted, what it says, and its rules, by number and in words. `present` and `word` read a calendar's bytes too.
+// The bytes of a sheet: whether it is accepted, and what is kept of it. `present` and `word` read a calendar's bytes too.
 mod fields;
 mod names;
-mod opened_sheet;
+mod opposites;
 mod rules;
 mod sections;
 mod steps;
-mod words;
 
 pub use fields::present;
 pub use fields::word;
-use opened_sheet::opened_at;
-use opened_sheet::rule_of;
 use sections::sections as read_sections;
 use sets::size;
 use steps::Field;
-pub use words::load;
-pub use words::load_only;
 ghost use mathlib.Core.Path.{_≡_};
 ghost use Rattle.semantics.specs.Definitions.Check.{opened};
 ghost use Rattle.sheet.specs.Opened.{openedOf};
-ghost use Rattle.sheet.specs.Fetched.{RulesBegin, RuleByNumber};
 
 // What is kept of an accepted sheet.
 pub struct Contents {
     pub atoms: usize,
     pub rules: usize,
+    pub pairs: usize,
     pub negations: usize,
     // where the rules begin
     pub rules_at: usize,
@@ -37,13 +32,6 @@ pub struct Contents {
 pub enum Opened {
     Accepted(Contents),
     Refused(u8, usize),
-}
-
-// What fetching a rule answers.
-pub enum Fetched {
-    // the place of its first byte
-    Rule { place: usize },
-    NoRule,
 }
 
 // The sheet, if it is accepted.
@@ -59,6 +47,7 @@ pub fn open(s: &[u8]) -> Opened
             Opened::Accepted(Contents {
                 atoms: c.atoms,
                 rules: c.rules,
+                pairs: c.pairs,
                 negations: k as usize,
                 rules_at: c.rules_at,
                 k_atoms: c.k_atoms,
@@ -67,12 +56,4 @@ pub fn open(s: &[u8]) -> Opened
         }
         Field::Refused(number, place) => Opened::Refused(number, place),
     }
-}
-
-// The rule of a number of an accepted sheet, whose rules begin at a place and are so many: fetched from the opened sheet.
-pub fn fetch(s: &[u8], rules_at: usize, rules: usize, number: usize) -> Fetched
-    requires { ⌜ RulesBegin (now s) «rules_at» rules ⌝ }
-    ensures { λ r. ⌜ RuleByNumber (now (s .entry)) number r ⌝ }
-{
-    rule_of(opened_at(s, rules_at, rules), number)
 }

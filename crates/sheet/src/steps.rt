@@ -6,6 +6,7 @@ pub struct Cursor {
     pub at: usize,
     pub atoms: usize,
     pub rules: usize,
+    pub pairs: usize,
     // where the rules begin
     pub rules_at: usize,
     // the atoms under K or "not K", and under M or "not M"

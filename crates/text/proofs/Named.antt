@@ -85,14 +85,14 @@ module _ (s : List ℕ) (x : Sheet) (end : ℕ) (e : opened s ≡ field x end) w
       let name : getD (x .names) a [] ≡ nameFrom s p = ap (λ l. getD l a []) (lies .names-lie) ∙ name-lies s n 1 a h in
       let there : afterName s p ≤ length s =
       omega (arith, afterNames-rises s (suc a) n 1 h, afterNames-more s a 1, lies .rules-begin, lies .whole) in
-      let short = accepted-fits s x end e .good-names (getD (x .names) a []) (getD-among (x .names) [] a h) .not-long in
+      let short = accepted-fits s x end e .front-fits .good-names (getD (x .names) a []) (getD-among (x .names) [] a h) .not-long in
       let few : byteAt s p ≤ longestName = omega (arith, short, ap length name, name-long s p there) in
       name-there s p few there ∙ ap (λ l. 32 ∷ l) (sym name)
 
   atoms-counted : atomsIn s ≡ length (x .names)
   atoms-counted =
       let lies = accepted-lies s x end e in
-      let few : byteAt s 0 ≤ mostAtoms = omega (arith, lies .atoms-byte, accepted-fits s x end e .few-names) in
+      let few : byteAt s 0 ≤ mostAtoms = omega (arith, lies .atoms-byte, accepted-fits s x end e .front-fits .few-names) in
       rw (le-leb (byteAt s 0) mostAtoms few) (lies .atoms-byte)
 
   names-spaced : (set : ℕ) → memberFields s set (atomsIn s) ≡ spaced (namesOf (x .names) set)

@@ -55,7 +55,7 @@ pub fn verdict_on(words: &[u16], x: Outline, guess: u16) -> Verdict
     requires { ⌜ Outlines x (now words) ⌝ }
     ensures { λ r. ⌜ verdictOf r ≡ verdict (settingIn x (now (words .entry))) guess ⌝ }
 {
-    let mut program = [0u16; 256];
+    let mut program = [0u16; 284];
     let rules = reduct(words, x, guess, &mut program[..]);
     judge(&program[..], rules, x, guess)
 }
@@ -67,7 +67,7 @@ pub fn belief_sets(words: &[u16], x: Outline, guess: u16, out: &mut [u16]) -> us
     ensures { λ r. ⌜ r ≤ length (now (out .entry)) ⌝ }
     ensures { λ r. ⌜ take r (now (out .exit)) ≡ beliefSets (settingIn x (now (words .entry))) guess ⌝ }
 {
-    let mut program = [0u16; 256];
+    let mut program = [0u16; 284];
     let rules = reduct(words, x, guess, &mut program[..]);
     let y = gather(&program[..], rules, x.atoms, x.ins, x.outs, &mut out[..]);
     y.sets

@@ -47,7 +47,7 @@ pub fn gather(
     ensures { λ r. ⌜ now (out .exit) ≡ over (stableSets atoms (programIn (now (program .entry)) rules ++ dayConstraints ins outs)) (now (out .entry)) ⌝ }
 {
     let end = power(atoms as u16);
-    let mut room = [0u16; 128];
+    let mut room = [0u16; 142];
     let mut nogoods = [1u16; 34];
     let mut known = full(atoms as u16);
     let mut possible = 0;

@@ -134,9 +134,9 @@ fn answer(sheet: &[u8]) {
     }
 }
 
-// The first 1,222 bytes decide: a sheet has at most 1,221.
+// The first 1,237 bytes decide: a sheet has at most 1,236.
 fn main() {
-    let mut sheet = [0u8; 1222];
+    let mut sheet = [0u8; 1237];
     let n = io::read_full(STDIN_FILENO, &mut sheet);
     answer(&sheet[..n]);
 }

@@ -31,6 +31,7 @@ abbrev kept : Cursor → ℕ → Contents
 kept c n = record {
   atoms = c .atoms;
   rules = c .rules;
+  pairs = c .pairs;
   negations = n;
   «rules_at» = c .«rules_at»;
   «k_atoms» = c .«k_atoms»;
@@ -54,7 +55,7 @@ module _ (s : List ℕ) {f : Field} (answered : f ≡ fieldOf (λ x. length (x .
       small =
           let (x, end, e, _, p) = read in
           let below = masks-below s x end e in
-          let few = sections-read s x end e .few-atoms in
+          let few = sections-read s x end e .front-read .few-atoms in
           let ki = size-below (atoms x) (kAtoms (x .rules)) (kAtoms-below (atoms x) (x .rules) below) in
           let mj = size-below (atoms x) (mAtoms (x .rules)) (mAtoms-below (atoms x) (x .rules) below) in
           (omega (arith, ei ∙ ap (λ z. size (z .«k_atoms»)) p), omega (arith, ej ∙ ap (λ z. size (z .«m_atoms»)) p))

@@ -3,7 +3,8 @@ use mathlib.Core.Path.{refl}
 use native.Mathlib.Omega.{arith}
 use mathlib.Core.Logic.{inl}
 use Rattle.semantics.specs.Theorems.CalendarCalls.{minute-refused}
-use Rattle.engine.proofs.Calendars.{turned-back, few-said, entries-stand, begins, minute-over, within-left, minute-reads}
+use Rattle.engine.proofs.Opened.{few-loaded}
+use Rattle.engine.proofs.Calendars.{turned-back, entries-stand, holds, minute-over, within-left, minute-reads}
 use borrow.Author.Needs.{needs}
 use Rattle.engine.proofs.minute.at_minute.Statement.{statement}
 use Rattle.engine.proofs.minute.at_minute.Tie as tie
@@ -40,7 +41,8 @@ load-only-requires c κs =
     let start = (c .before .before .before .before .before .before .before .before .before .before .before .before .before) in
     let a = start .args in
     let r = c .before .before .before .before .before .before .before .before .with-calendar in
-    (begins (a .sheet .now) (a .calendar .now) _ (r .result) (r .ensures .1) (c .before .before .before .before .before .x .given .1), omega (arith, few-said (a .sheet .now) (a .calendar .now) _ (r .result) (r .ensures .1) (c .before .before .before .before .before .x .given .1), start .pre))
+    let h = holds (a .sheet .now) (a .calendar .now) _ (r .result) (r .ensures .1) (c .before .before .before .before .before .x .given .1) in
+    (h, omega (arith, few-loaded (a .sheet .now) h, start .pre))
 
 outline-of-requires : tie.Need-outline-of-requires
 outline-of-requires c κs =
@@ -48,7 +50,7 @@ outline-of-requires c κs =
     let a = start .args in
     let r = c .before .before .before .before .before .before .before .before .before .before .before .before .with-calendar in
     let w = c .before .before .before .load-only in
-    within-left (a .sheet .now) (a .calendar .now) _ (r .result) (r .ensures .1) (c .before .before .before .before .before .before .before .before .before .x .given .1) (a .minute) _ _ (w .result) (c .before .before .before .before .before .in-force .ensures) (w .ensures .1) (omega (arith, w .ensures .0, start .pre))
+    within-left (a .sheet .now) (a .calendar .now) _ (r .result) (r .ensures .1) (c .before .before .before .before .before .before .before .before .before .x .given .1) (a .minute) _ _ (w .result) (c .before .before .before .before .before .in-force .ensures) (w .ensures .1 .0) (w .ensures .1 .1) (omega (arith, w .ensures .0, start .pre))
 
 enum-known-number : tie.Need-enum-known-number
 enum-known-number c = search needs
@@ -64,7 +66,7 @@ returns-2 c =
     let w = c .before .before .before .before .load-only in
     let o = c .outline-of in (
       w .ensures .0,
-      minute-reads (a .sheet .now) (a .calendar .now) _ (r .result) (r .ensures .1) (c .before .before .before .before .before .before .before .before .before .before .x .given .1) (a .minute) _ _ (w .result) (c .before .before .before .before .before .before .in-force .ensures) (w .ensures .1) (omega (arith, w .ensures .0, start .pre))
+      minute-reads (a .sheet .now) (a .calendar .now) _ (r .result) (r .ensures .1) (c .before .before .before .before .before .before .before .before .before .before .x .given .1) (a .minute) _ _ (w .result) (c .before .before .before .before .before .before .in-force .ensures) (w .ensures .1 .0) (w .ensures .1 .1) (omega (arith, w .ensures .0, start .pre))
           (omega (arith, c .before .before .before .before .before .before .before .before .if1 .left)) (o .result) (o .ensures .0) (o .ensures .1),
     )
 

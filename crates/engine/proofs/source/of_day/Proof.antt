@@ -2,7 +2,8 @@
 use mathlib.Core.Path.{refl, sym, _∙_}
 use native.Mathlib.Omega.{arith}
 use borrow.Author.Tests.{not-true, not-false}
-use Rattle.sheet.specs.Fetched.{rules-begin}
+use Rattle.semantics.specs.Definitions.Check.{opened}
+use Rattle.sheet.specs.Opened.{opened-as}
 use Rattle.engine.proofs.Opened.{few-atoms, few-loaded, day-reads, day-reads-bad, day-reads-refused}
 use borrow.Author.Needs.{needs}
 use Rattle.engine.proofs.source.of_day.Statement.{statement}
@@ -28,7 +29,7 @@ load-requires c κs =
     let start = c .before .before .before .before .before .before .before .before .before in
     let sheet = start .args .sheet .now in
     let told = sym (c .before .before .before .before .before .before .«open» .ensures) ∙ c .before .before .before .before .x .given .1 in
-    (rules-begin sheet told, omega (arith, few-loaded sheet told, start .pre))
+    (opened-as (opened sheet) told, omega (arith, few-loaded sheet (opened-as (opened sheet) told), start .pre))
 
 enum-known-number : tie.Need-enum-known-number
 enum-known-number c = search needs
@@ -42,7 +43,7 @@ returns-2 c =
     let told = sym (c .before .before .before .before .before .before .before .before .before .«open» .ensures) ∙ c .before .before .before .before .before .before .before .x .given .1 in
     let fits = sym (c .before .before .before .before .before .masks-fit .ensures) ∙ not-false (c .before .before .before .before .before .masks-fit .result) (c .before .before .before .before .if1 .left) in
     let loaded = c .before .before .load .ensures in
-    (loaded .0, day-reads (start .args .sheet .now) _ (start .args .ins) (start .args .outs) told fits (loaded .1) (omega (arith, loaded .0, start .pre)))
+    (loaded .0, day-reads (start .args .sheet .now) _ (start .args .ins) (start .args .outs) (opened-as (opened (start .args .sheet .now)) told) fits _ (loaded .1 .0) (loaded .1 .1) (omega (arith, loaded .0, start .pre)))
 
 returns-3 : tie.Need-returns-3
 returns-3 c =

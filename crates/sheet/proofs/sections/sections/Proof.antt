@@ -3,139 +3,118 @@ use borrow.Author.Needs.{needs}
 use borrow.Author.Tests.{eq-eqb, ne-eqb}
 use lib.ListN.{length}
 use mathlib.Core.List.{List, []}
-use mathlib.Core.Path.{_≡_, sym, ap, _∙_}
-use native.Mathlib.Omega.{arith}
-use Prim.Native.Nat.{ℕ, _≤_}
-use Rattle.semantics.specs.Definitions.Reading.{Reading, field, times}
-use Rattle.semantics.specs.Definitions.Sheet.{countAt, nameAt, ruleAt, sections}
+use mathlib.Core.Path.{_≡_, sym, ap, ap₂, subst, _∙_}
+use Prim.Native.Nat.{ℕ}
+use Rattle.semantics.specs.Definitions.Reading.{field, refused, times}
+use Rattle.semantics.specs.Definitions.Sheet.{Opposites, Sheet, atoms, withPairs, countAt, pairAt, front, pairsAt, sections}
 use Rattle.semantics.specs.Theorems.Reading.{times-length}
-use Rattle.semantics.specs.Theorems.Fields.{count-field}
 use Rattle.sheet.specs.declared.steps.Cursor.{Cursor}
 use Rattle.sheet.specs.declared.steps.Field.{Field}
 use Rattle.sheet.specs.declared.steps.Field.the-variants.{Got, Refused}
-use Rattle.sheet.specs.Steps.{fieldOf, moved, noted, cursorOf}
+use Rattle.sheet.specs.Steps.{fieldOf, moved, cursorOf}
 use Rattle.sheet.proofs.Laws.{was-field, was-refused}
 use Rattle.sheet.proofs.sections.sections.Statement.{statement}
 use Rattle.sheet.proofs.sections.sections.Tie as tie
 
--- a cursor before any rule is read, and with the place where the rules begin
-abbrev before : (atoms at : ℕ) → Cursor
-before n at = record { at = at; atoms = n; rules = 0; «rules_at» = 0; «k_atoms» = 0; «m_atoms» = 0 }
+abbrev answer : List ℕ → Field
+answer s = fieldOf (λ x. length (x .rules)) cursorOf (sections s)
 
-abbrev rules-from : (atoms rules at : ℕ) → Cursor
-rules-from n m at = record { at = at; atoms = n; rules = m; «rules_at» = at; «k_atoms» = 0; «m_atoms» = 0 }
-
--- a step that only moves the cursor: its reading's next place is the cursor's
-module _ {A : Type 0} (number : A → ℕ) (c : Cursor) (r : Reading A) {f : Field} (answered : f ≡ fieldOf number (λ _. moved c) r) where
-  was-moved : {v : ℕ} {c′ : Cursor} → f ≡ Got v c′ → (x : A) × (r ≡ field x (c′ .at)) × (v ≡ number x) × (c′ ≡ moved c (c′ .at))
-  was-moved {v} {c′} told =
-      let (x, next, e, n, p) = was-field number (λ _. moved c) r answered told in
-      let at : next ≡ c′ .at = ap (λ z. z .at) (sym p) in
-      (x, e ∙ ap (field x) at, n, p ∙ ap (moved c) at)
-
-abbrev with-atoms : ℕ → Cursor → Cursor
-with-atoms n c = record { at = c .at; atoms = n; rules = c .rules; «rules_at» = c .«rules_at»; «k_atoms» = c .«k_atoms»; «m_atoms» = c .«m_atoms» }
-
-abbrev with-rules : ℕ → Cursor → Cursor
-with-rules m c = record { at = c .at; atoms = c .atoms; rules = m; «rules_at» = c .at; «k_atoms» = c .«k_atoms»; «m_atoms» = c .«m_atoms» }
-
--- each way that the reading ends, section by section, by the answers of the code's steps
-module _ (s : List ℕ) {a : Field} (A : a ≡ fieldOf (λ n. n) (λ _. moved (before 0 0)) (countAt s 15 0)) where
-  abbrev answer : Field
-  answer = fieldOf (λ x. length (x .rules)) cursorOf (sections s)
-
-  stop-1 : {k p : ℕ} → a ≡ Refused k p → a ≡ answer
+-- ---- each way that the reading ends, by its steps
+module _ (s : List ℕ) where
+  no-front : {k p : ℕ} → front s ≡ refused k p → Refused k p ≡ answer s
   unfolding sections
-  stop-1 told =
-      let e = was-refused (λ n. n) (λ _. moved (before 0 0)) (countAt s 15 0) A told in
-      told ∙ rw e
+  no-front e = rw e
+
+  module _ (x : Sheet) (at : ℕ) (F : front s ≡ field x at) where
+    no-count : {k p : ℕ} → countAt s 7 at ≡ refused k p → Refused k p ≡ answer s
+    unfolding sections pairsAt
+    no-count e = rw (F, e)
+
+    module _ (m next : ℕ) (C : countAt s 7 at ≡ field m next) where
+      no-pairs : {k p : ℕ} → times m [] (pairAt s (atoms x)) next ≡ refused k p → Refused k p ≡ answer s
+      unfolding sections pairsAt
+      no-pairs e = rw (F, C, e)
+
+      module _ (pairs : List Opposites) (end : ℕ) (P : times m [] (pairAt s (atoms x)) next ≡ field pairs end) where
+        over : (end ≡ length s → ⊥) → Refused 6 end ≡ answer s
+        unfolding sections pairsAt
+        over h = rw (F, C, P, ne-eqb end (length s) h)
+
+        whole : end ≡ length s → Got (length (x .rules)) (cursorOf (withPairs x pairs) end) ≡ answer s
+        unfolding sections pairsAt
+        whole h = rw (F, C, P, eq-eqb end (length s) h)
+
+-- ---- and by the answers of the code's steps
+abbrev with-pairs : ℕ → Cursor → Cursor
+with-pairs m c = record {
+  at = c .at;
+  atoms = c .atoms;
+  rules = c .rules;
+  pairs = m;
+  «rules_at» = c .«rules_at»;
+  «k_atoms» = c .«k_atoms»;
+  «m_atoms» = c .«m_atoms»;
+}
+
+module _ (s : List ℕ) {a : Field} (A : a ≡ fieldOf (λ x. length (x .rules)) cursorOf (front s)) where
+  stop-1 : {k p : ℕ} → a ≡ Refused k p → a ≡ answer s
+  stop-1 told = told ∙ no-front s (was-refused (λ x. length (x .rules)) cursorOf (front s) A told)
 
   module _ {n : ℕ} {c₁ : Cursor} (ta : a ≡ Got n c₁) where
-    counted : (countAt s 15 0 ≡ field n (c₁ .at)) × (c₁ ≡ before 0 (c₁ .at))
-    counted =
-        let (x, e, v, p) = was-moved (λ n. n) (before 0 0) (countAt s 15 0) A ta in
-        (e ∙ ap (λ z. field z (c₁ .at)) (sym v), p)
+    fronted : (x : Sheet) × (at : ℕ) × (front s ≡ field x at) × (n ≡ length (x .rules)) × (c₁ ≡ cursorOf x at)
+    fronted = was-field (λ x. length (x .rules)) cursorOf (front s) A ta
 
-    abbrev names-step : Reading (List (List ℕ))
-    names-step = times n [] (nameAt s) (c₁ .at)
+    module _ {b : Field} (B : b ≡ fieldOf (λ n. n) (λ _. moved c₁) (countAt s 7 (c₁ .at))) where
+      count-from : (x : Sheet) (at : ℕ) → c₁ ≡ cursorOf x at → b ≡ fieldOf (λ n. n) (λ _. moved (cursorOf x at)) (countAt s 7 at)
+      count-from x at p = subst (λ c. b ≡ fieldOf (λ n. n) (λ _. moved c) (countAt s 7 (c .at))) p B
 
-    module _ {b : Field} (B : b ≡ fieldOf (λ _. n) (λ _. moved (with-atoms n c₁)) names-step) where
-      stop-2 : {k p : ℕ} → b ≡ Refused k p → b ≡ answer
-      unfolding sections
+      stop-2 : {k p : ℕ} → b ≡ Refused k p → b ≡ answer s
       stop-2 told =
-          let e = was-refused (λ _. n) (λ _. moved (with-atoms n c₁)) names-step B told in
-          told ∙ rw (counted .0, e)
+          let (x, at, F, _, p) = fronted in
+          told ∙ no-count s x at F (was-refused (λ n. n) (λ _. moved (cursorOf x at)) (countAt s 7 at) (count-from x at p) told)
 
-      module _ {v₂ : ℕ} {c₂ : Cursor} (tb : b ≡ Got v₂ c₂) where
-        named : (names : List (List ℕ)) × (names-step ≡ field names (c₂ .at)) × (c₂ ≡ before n (c₂ .at))
-        named =
-            let (names, e, _, p) = was-moved (λ _. n) (with-atoms n c₁) names-step B tb in
-            (names, e, p ∙ ap (λ z. moved (with-atoms n z) (c₂ .at)) (counted .1))
+      module _ {m : ℕ} {c₂ : Cursor} (tb : b ≡ Got m c₂) where
+        -- the sheet so far, and where its pairs begin
+        counted : (x : Sheet) × (at : ℕ) × (next : ℕ) × (front s ≡ field x at) × (n ≡ length (x .rules)) × (countAt s 7 at ≡ field m next)
+            × (c₂ ≡ moved (cursorOf x at) next)
+        counted =
+            let (x, at, F, v, p) = fronted in
+            let (m′, next, e, w, q) = was-field (λ n. n) (λ _. moved (cursorOf x at)) (countAt s 7 at) (count-from x at p) tb in
+            (x, at, next, F, v, e ∙ ap (λ z. field z next) (sym w), q)
 
-        module _ {d : Field} (D : d ≡ fieldOf (λ n. n) (λ _. moved c₂) (countAt s 64 (c₂ .at))) where
-          stop-3 : {k p : ℕ} → d ≡ Refused k p → d ≡ answer
-          unfolding sections
+        module _ {d : Field} (D : d ≡ fieldOf (λ _. m) (λ _. moved (with-pairs m c₂)) (times m [] (pairAt s (c₂ .atoms)) (c₂ .at))) where
+          abbrev pairs-cursor : (x : Sheet) (at next : ℕ) → List Opposites → ℕ → Cursor
+          pairs-cursor x at next _ = moved (with-pairs m (moved (cursorOf x at) next))
+
+          pairs-from : (x : Sheet) (at next : ℕ) → c₂ ≡ moved (cursorOf x at) next
+              → d ≡ fieldOf (λ _. m) (pairs-cursor x at next) (times m [] (pairAt s (atoms x)) next)
+          pairs-from x at next q = subst (λ c. d ≡ fieldOf (λ _. m) (λ _. moved (with-pairs m c)) (times m [] (pairAt s (c .atoms)) (c .at))) q D
+
+          stop-3 : {k p : ℕ} → d ≡ Refused k p → d ≡ answer s
           stop-3 told =
-              let (_, names, _) = named in
-              let e = was-refused (λ n. n) (λ _. moved c₂) (countAt s 64 (c₂ .at)) D told in
-              told ∙ rw (counted .0, names, e)
+              let (x, at, next, F, _, C, q) = counted in
+              told ∙ no-pairs s x at F m next C
+              (was-refused (λ _. m) (pairs-cursor x at next) (times m [] (pairAt s (atoms x)) next) (pairs-from x at next q) told)
 
-          module _ {m : ℕ} {c₃ : Cursor} (td : d ≡ Got m c₃) where
-            rule-count : (countAt s 64 (c₂ .at) ≡ field m (c₃ .at)) × (c₃ ≡ before n (c₃ .at))
-            rule-count =
-                let (x, e, v, p) = was-moved (λ n. n) c₂ (countAt s 64 (c₂ .at)) D td in
-                (e ∙ ap (λ z. field z (c₃ .at)) (sym v), p ∙ ap (λ z. moved z (c₃ .at)) (named .2))
+          module _ {v : ℕ} {c₃ : Cursor} (td : d ≡ Got v c₃) where
+            over-all : (c₃ .at ≡ length s → ⊥) → Refused 6 (c₃ .at) ≡ answer s
+            over-all h =
+                let (x, at, next, F, _, C, q) = counted in
+                let (pairs, end, P, _, r) = was-field (λ _. m) (pairs-cursor x at next) (times m [] (pairAt s (atoms x)) next) (pairs-from x at next q) td in
+                let e : c₃ .at ≡ end = ap (λ c. c .at) r in
+                ap (Refused 6) e ∙ over s x at F m next C pairs end P (λ z. h (e ∙ z))
 
-            few : c₃ .atoms ≤ 15
-            few =
-                let (_, _, h, _) = count-field s 15 0 n (c₁ .at) (counted .0) in
-                omega (arith, ap (λ z. z .atoms) (rule-count .1))
+            accepted : c₃ .at ≡ length s → Got n c₃ ≡ answer s
+            accepted h =
+                let (x, at, next, F, rules, C, q) = counted in
+                let (pairs, end, P, _, r) = was-field (λ _. m) (pairs-cursor x at next) (times m [] (pairAt s (atoms x)) next) (pairs-from x at next q) td in
+                let e : end ≡ c₃ .at = ap (λ c. c .at) (sym r) in
+                let many = times-length (pairAt s (atoms x)) m next P in
+                ap₂ Got rules (r ∙ ap (λ k. moved (with-pairs k (moved (cursorOf x at) next)) end) (sym many))
+                ∙ whole s x at F m next C pairs end P (e ∙ h)
 
-            abbrev rules-cursor : List (List ℕ) → ℕ → Cursor
-            rules-cursor rules = moved (noted (rules-from n m (c₃ .at)) rules)
-
-            abbrev rules-step : Reading (List (List ℕ))
-            rules-step = times m [] (λ _. ruleAt s n) (c₃ .at)
-
-            module _ {f : Field}
-                (F : f ≡ fieldOf (λ _. m) (λ rules. moved (noted (with-rules m c₃) rules)) (times m [] (λ _. ruleAt s (c₃ .atoms)) (c₃ .at))) where
-              of-atoms : f ≡ fieldOf (λ _. m) rules-cursor rules-step
-              of-atoms =
-                  F ∙ ap (λ z. fieldOf (λ _. m) (λ rules. moved (noted (with-rules m z) rules)) (times m [] (λ _. ruleAt s (z .atoms)) (z .at)))
-                  (rule-count .1)
-
-              stop-4 : {k p : ℕ} → f ≡ Refused k p → f ≡ answer
-              unfolding sections
-              stop-4 told =
-                  let (_, names, _) = named in
-                  let e = was-refused (λ _. m) rules-cursor rules-step of-atoms told in
-                  told ∙ rw (counted .0, names, rule-count .0, e)
-
-              module _ {v₄ : ℕ} {c₄ : Cursor} (tf : f ≡ Got v₄ c₄) where
-                all : (rules : List (List ℕ)) × (rules-step ≡ field rules (c₄ .at)) × (c₄ ≡ rules-cursor rules (c₄ .at))
-                all =
-                    let (rules, end, e, _, p) = was-field (λ _. m) rules-cursor rules-step of-atoms tf in
-                    let at : end ≡ c₄ .at = ap (λ z. z .at) (sym p) in
-                    (rules, e ∙ ap (field rules) at, p ∙ ap (rules-cursor rules) at)
-
-                over : (c₄ .at ≡ length s → ⊥) → Refused 6 (c₄ .at) ≡ answer
-                unfolding sections
-                over h =
-                    let (_, names, _) = named in
-                    let (_, rules, _) = all in
-                    rw (counted .0, names, rule-count .0, rules, ne-eqb (c₄ .at) (length s) h)
-
-                accepted : c₄ .at ≡ length s → Got m c₄ ≡ answer
-                unfolding sections
-                accepted h =
-                    let (_, names, _) = named in
-                    let (_, rules, p) = all in
-                    let ln = times-length (nameAt s) n (c₁ .at) names in
-                    let lm = times-length (λ _. ruleAt s n) m (c₃ .at) rules in
-                    ap (Got m) p ∙ rw (counted .0, names, rule-count .0, rules, eq-eqb (c₄ .at) (length s) h, ln, lm)
-
-count-requires : tie.Need-count-requires
-count-requires c κs = search needs
+front-requires : tie.Need-front-requires
+front-requires c κs = search needs
 
 enum-known-a : tie.Need-enum-known-a
 enum-known-a c = search needs
@@ -144,11 +123,10 @@ enum-told : tie.Need-enum-told
 enum-told c = search needs
 
 returns : tie.Need-returns
-returns c =
-    stop-1 (c .before .before .before .before .args .s .now) (c .before .before .count .ensures) (c .enum-told .given .1)
+returns c = stop-1 (c .before .before .before .before .args .s .now) (c .before .before .front .ensures) (c .enum-told .given .1)
 
-names-requires : tie.Need-names-requires
-names-requires c κs = search needs
+count-requires : tie.Need-count-requires
+count-requires c κs = search needs
 
 enum-known-b : tie.Need-enum-known-b
 enum-known-b c = search needs
@@ -158,12 +136,12 @@ enum-told-2 c = search needs
 
 returns-2 : tie.Need-returns-2
 returns-2 c =
-    let a = c .before .before .before .before in
-    stop-2 (a .before .before .before .before .args .s .now) (a .before .before .count .ensures) (a .a .given .1)
-    (c .before .before .names .ensures) (c .enum-told2 .given .1)
+    let a = c .before .before .before in
+    stop-2 (a .before .before .before .before .before .args .s .now) (a .before .before .before .front .ensures) (a .before .a .given .1)
+    (c .before .before .count .ensures) (c .enum-told2 .given .1)
 
-count-requires-2 : tie.Need-count-requires-2
-count-requires-2 c κs = search needs
+pairs-requires : tie.Need-pairs-requires
+pairs-requires c κs = search needs
 
 enum-known-c : tie.Need-enum-known-c
 enum-known-c c = search needs
@@ -173,78 +151,45 @@ enum-told-3 c = search needs
 
 returns-3 : tie.Need-returns-3
 returns-3 c =
-    let b = c .before .before .before .before in
+    let b = c .before .before .before in
     let a = b .before .before .before .before in
-    stop-3 (a .before .before .before .before .args .s .now) (a .before .before .count .ensures) (a .a .given .1)
-    (b .before .before .names .ensures) (b .b .given .1)
-    (c .before .before .count2 .ensures) (c .enum-told3 .given .1)
-
-rules-requires : tie.Need-rules-requires
-rules-requires c κs =
-    let n = c .before in
-    let b = n .before .before .before .before in
-    let a = b .before .before .before .before in
-    few (a .before .before .before .before .args .s .now) (a .before .before .count .ensures) (a .a .given .1)
-    (b .before .before .names .ensures) (b .b .given .1)
-    (n .before .before .count2 .ensures) (n .c .given .1)
-
-enum-known-d : tie.Need-enum-known-d
-enum-known-d c = search needs
-
-enum-told-4 : tie.Need-enum-told-4
-enum-told-4 c = search needs
+    stop-3 (a .before .before .before .before .before .args .s .now) (a .before .before .before .front .ensures) (a .before .a .given .1)
+    (b .before .before .before .count .ensures) (b .before .b .given .1)
+    (c .before .before .pairs .ensures) (c .enum-told3 .given .1)
 
 returns-4 : tie.Need-returns-4
 returns-4 c =
-    let n = c .before .before .before .before in
-    let b = n .before .before .before .before in
+    let d = c .before in
+    let b = d .before .before .before .before in
     let a = b .before .before .before .before in
-    stop-4 (a .before .before .before .before .args .s .now) (a .before .before .count .ensures) (a .a .given .1)
-    (b .before .before .names .ensures) (b .b .given .1)
-    (n .before .before .count2 .ensures) (n .c .given .1)
-    (c .before .before .rules .ensures) (c .enum-told4 .given .1)
+    accepted (a .before .before .before .before .before .args .s .now) (a .before .before .before .front .ensures) (a .before .a .given .1)
+    (b .before .before .before .count .ensures) (b .before .b .given .1)
+    (d .before .before .before .pairs .ensures) (d .before .c .given .1) (c .if1 .taken)
 
 returns-5 : tie.Need-returns-5
 returns-5 c =
-    let r = c .before .before in
-    let n = r .before .before .before .before in
-    let b = n .before .before .before .before in
+    let d = c .before in
+    let b = d .before .before .before .before in
     let a = b .before .before .before .before in
-    accepted (a .before .before .before .before .args .s .now) (a .before .before .count .ensures) (a .a .given .1)
-    (b .before .before .names .ensures) (b .b .given .1)
-    (n .before .before .count2 .ensures) (n .c .given .1)
-    (r .before .before .rules .ensures) (r .d .given .1) (c .if1 .taken)
-
-returns-6 : tie.Need-returns-6
-returns-6 c =
-    let r = c .before .before in
-    let n = r .before .before .before .before in
-    let b = n .before .before .before .before in
-    let a = b .before .before .before .before in
-    over (a .before .before .before .before .args .s .now) (a .before .before .count .ensures) (a .a .given .1)
-    (b .before .before .names .ensures) (b .b .given .1)
-    (n .before .before .count2 .ensures) (n .c .given .1)
-    (r .before .before .rules .ensures) (r .d .given .1) (c .if1 .left)
+    over-all (a .before .before .before .before .before .args .s .now) (a .before .before .before .front .ensures) (a .before .a .given .1)
+    (b .before .before .before .count .ensures) (b .before .b .given .1)
+    (d .before .before .before .pairs .ensures) (d .before .c .given .1) (c .if1 .left)
 
 pub sections-spec : {M : Type 1} → statement M
 sections-spec =
     tie.close
     (tie.spec
-    count-requires
+    front-requires
     enum-known-a
     enum-told
     returns
-    names-requires
+    count-requires
     enum-known-b
     enum-told-2
     returns-2
-    count-requires-2
+    pairs-requires
     enum-known-c
     enum-told-3
     returns-3
-    rules-requires
-    enum-known-d
-    enum-told-4
     returns-4
-    returns-5
-    returns-6)
+    returns-5)

@@ -26,7 +26,7 @@ same d e f g i = having (d i) (e i) (f i) (g i)
 abbrev Inv-loop : tie.InvT-loop
 Inv-loop program rules atoms ins outs out₀ end room₀ nogoods₀ known₀ possible₀ sets₀ tests₀ i₀ out room nogoods known possible sets tests i =
     let p = programIn program rules ++ dayConstraints ins outs in
-    (tests ≡ i) × (i ≤ end) × (sets ≤ i) × (having known possible sets tests ≡ passOver atoms p (upTo i)) × (out ≡ writtenTo p i out₀) × (length room ≡ 128)
+    (tests ≡ i) × (i ≤ end) × (sets ≤ i) × (having known possible sets tests ≡ passOver atoms p (upTo i)) × (out ≡ writtenTo p i out₀) × (length room ≡ 142)
     × ((length nogoods ≡ 34) × Nogoods ins outs (programIn program rules) nogoods)
 
 abbrev μ-loop : tie.MeasureT-loop

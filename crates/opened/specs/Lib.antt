@@ -1,0 +1,3 @@
+-- What the answers of the code mean, and what stands in the words.
+pub mod Fetched
+pub mod Loaded
