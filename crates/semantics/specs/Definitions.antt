@@ -21,3 +21,4 @@ pub mod Calendar
 pub mod Pass
 pub mod Day
 pub mod LeastModel
+pub mod Sharing

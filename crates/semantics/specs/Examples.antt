@@ -1,6 +1,6 @@
 -- Sheets whose lists are known, limit cases of the reading, the table of the reduct, verdicts and belief sets of guesses, what the listing, the
--- desk call and the query return, what `views` prints, calendars, what one pass gathers, the answers under the day's masks, least models, and
--- sheets with pairs of opposites, computed.
+-- desk call and the query return, what `views` prints, calendars, what one pass gathers, the answers under the day's masks, least models,
+-- sheets with pairs of opposites, and sheets on one allowance, computed.
 pub mod Sheets
 pub mod Own
 pub mod Limits
@@ -16,4 +16,5 @@ pub mod Passes
 pub mod Days
 pub mod LeastModels
 pub mod Opposites
+pub mod Sharing
 pub mod Computed

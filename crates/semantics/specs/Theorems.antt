@@ -38,6 +38,7 @@ pub mod WorldView
 pub mod Order
 pub mod Tally
 pub mod Walk
+pub mod Tests
 pub mod Listing
 pub mod Records
 pub mod Query

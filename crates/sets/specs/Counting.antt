@@ -1,5 +1,5 @@
 -- How many members a list has, and how many of them pass a test. Assumes nothing.
-use Prim.Native.Nat.{ℕ, _+_, _≤_, _<_, zero-le}
+use Prim.Native.Nat.{ℕ, suc, _+_, _≤_, _<_, zero-le}
 use mathlib.Core.Path.{_≡_, refl, sym, ap, subst}
 use mathlib.Core.Bool.{Bool, true, false, cond}
 use mathlib.Core.List.{List, [], _∷_, _++_}
@@ -57,6 +57,15 @@ module _ {A : Type 0} where
       go : (b : Bool) → length (cond b (x ∷ keep f l) (keep f l)) ≡ one b + length (keep f l)
       go true = omega arith
       go false = omega arith
+
+  pub keep-shorter : (f : A → Bool) (l : List A) → length (keep f l) ≤ length l
+  unfolding keep
+  keep-shorter f [] = zero-le
+  keep-shorter f (x ∷ l) = go (f x) (keep-shorter f l)
+    where
+      go : (b : Bool) → length (keep f l) ≤ length l → length (cond b (x ∷ keep f l) (keep f l)) ≤ suc (length l)
+      go true h = omega arith
+      go false h = omega arith
 
   -- where each member that passes f passes one of three tests, and no other member passes any
   pub length-shared : (f a b c : A → Bool) (l : List A) → ((x : A) → x among l → one (f x) ≡ one (a x) + one (b x) + one (c x))

@@ -7,7 +7,7 @@ use mathlib.Core.Logic.{_↔_, _⊎_, inl, inr, ⊎-elim}
 use native.Mathlib.Omega.{arith}
 use native.Mathlib.Nat.{eq-or-lt-of-le, le-of-suc-le-suc, not-suc-le-zero}
 use lib.Dec.{eqb}
-use lib.ListN.{length, getD, length-append, length-map, List·getD-append}
+use lib.ListN.{length, getD, take, length-append, length-map, take-append-drop, List·getD-append}
 use lib.Seq.{getD-at}
 use Rattle.sets.specs.Decides.{is-true, Decides, dec-true, dec-false, dec-self, dec-iff, dec-and, dec-or, dec-eq}
 
@@ -81,6 +81,9 @@ module _ {A : Type 0} where
 
   pub among-middle : (l : List A) (x : A) (m : List A) {whole : List A} → l ++ x ∷ m ≡ whole → x among whole
   among-middle l x m e = subst (λ z. x among z) e (among-append l .1 (inr here))
+
+  pub among-take : {x : A} (n : ℕ) (l : List A) → x among take n l → x among l
+  among-take {x} n l m = subst (λ z. x among z) (take-append-drop n l) (among-append (take n l) .1 (inl m))
 
   -- what holds of every member, of more members and of the entry at a number
   module _ (P : A → Type 0) where

@@ -26,6 +26,7 @@ use Rattle.semantics.specs.Definitions.Calendar.{entryAt, calendarOf, op
 use Rattle.semantics.specs.Definitions.Pass.{gathered, onePass}
 use Rattle.semantics.specs.Definitions.Day.{dayConstraints, underMasks, ofDay}
 use Rattle.semantics.specs.Definitions.LeastModel.{singleHeads, grown, leastModel, byLeastModel}
+use Rattle.semantics.specs.Definitions.Sharing.{testsOf, metIn, finishedIn, inAll, turns, turnsAt, sharesFrom, sheetBySheet, shareCall, handed, lentAfter}
 use Rattle.semantics.specs.Walk.{walk}
 use Rattle.semantics.specs.Theorems.CalendarPlaces.{longestCalendar}
 use Rattle.semantics.specs.Examples.Sheets.{Listed, zeros, ten, kiln, sheet-6}
@@ -43,6 +44,7 @@ use Rattle.semantics.specs.Examples.Passes.{passes}
 use Rattle.semantics.specs.Examples.Days.{dayVerdicts, daySets, dayContradicted, dayListings, dayDesk, dayQueries}
 use Rattle.semantics.specs.Examples.LeastModels.{chain, stages, leastModels, singles, leastBeliefs}
 use Rattle.semantics.specs.Examples.Opposites.{knownSheets, old, oldLengths, pairAnswers, withPair, turned, asRule, withoutPair, pairListings, manyPairs, pairPrograms, minutePrograms, pairVerdicts, pairSets, pairContradicted, pairDayListings, pairDesk, pairQueries, pairMinutes, pairPasses, pairSingles, pairBeliefs}
+use Rattle.semantics.specs.Examples.Sharing.{turnLists, finishedCalls, fitCalls, roundCalls, orderCalls, nineCalls, deniedCalls, lentBuffers}
 
 -- the list of a setting by the definitions, and by the walk along the order
 abbrev listed : Setting → List View × Tally
@@ -138,9 +140,18 @@ pub record Computed : Type 0 where
   pub pair-single-or-not : map (λ p. said singleHeads (p .0)) pairSingles ≡ map (λ p. accepted (p .1)) pairSingles
   pub pair-beliefs-pass : map (λ p. answer (λ s. keep (byLeastModel (s .program (p .3))) (upTo (2 ^ s .atoms))) (ofDay (p .0) (p .1) (p .2))) pairBeliefs ≡ map (λ p. accepted (p .4)) pairBeliefs
   pub pair-beliefs-stable : map (λ p. answer (λ s. beliefSets s (p .3)) (ofDay (p .0) (p .1) (p .2))) pairBeliefs ≡ map (λ p. accepted (p .4)) pairBeliefs
+  -- document 02, K4: the turns, what each sheet has of one allowance, and what the lent buffers then hold
+  pub turns-are : map (λ p. turns (p .0)) turnLists ≡ map (λ p. p .1) turnLists
+  pub shares-finished : map (λ p. shareCall (p .0) (p .1) (p .2) (p .3)) finishedCalls ≡ map (λ p. p .4) finishedCalls
+  pub shares-fit : map (λ p. shareCall (p .0) (p .1) (p .2) (p .3)) fitCalls ≡ map (λ p. p .4) fitCalls
+  pub shares-by-rounds : map (λ p. shareCall (p .0) (p .1) (p .2) (p .3)) roundCalls ≡ map (λ p. p .4) roundCalls
+  pub shares-in-order : map (λ p. shareCall (p .0) (p .1) (p .2) (p .3)) orderCalls ≡ map (λ p. p .4) orderCalls
+  pub shares-nine : map (λ p. shareCall (p .0) (p .1) (p .2) (p .3)) nineCalls ≡ map (λ p. p .4) nineCalls
+  pub shares-denied : map (λ p. shareCall (p .0) (p .1) (p .2) (p .3)) deniedCalls ≡ map (λ p. p .4) deniedCalls
+  pub buffers-lent : map (λ p. lentAfter (shareCall (p .0) (p .1) (p .2) (map length (p .3))) (p .3)) lentBuffers ≡ map (λ p. p .4) lentBuffers
 
 pub computed : Computed
-unfolding ℕ-discrete ones onesIn every some keep flat upTo downFrom sameList setOf zeros times atomsOf countAt nameByteAt nameAt maskAt ruleAt pairAt front twoSections pairsAt sections opened openedTwoSections ofSheet check reductRule reduct reductAt smallerModel stable stableSets beliefSets guessFound verdict forGuess verdictCall beliefSetsCall steps contradicted order isWorldView covered tallyOf viewsAlong walk forAtom queryCall yesNoOpen answerBy digits namesOf printed entryAt calendarOf inForce ofMinute onePass membersOf dayConstraints underMasks grown byLeastModel
+unfolding ℕ-discrete ones onesIn every some keep flat upTo downFrom sameList setOf zeros times atomsOf countAt nameByteAt nameAt maskAt ruleAt pairAt front twoSections pairsAt sections opened openedTwoSections ofSheet check reductRule reduct reductAt smallerModel stable stableSets beliefSets guessFound verdict forGuess verdictCall beliefSetsCall steps contradicted order isWorldView covered tallyOf viewsAlong walk forAtom queryCall yesNoOpen answerBy digits namesOf printed entryAt calendarOf inForce ofMinute onePass membersOf dayConstraints underMasks grown byLeastModel testsOf metIn finishedIn inAll turns turnsAt sharesFrom sheetBySheet shareCall handed
 computed = record {
   checks = refl;
   lists = refl;
@@ -204,4 +215,12 @@ computed = record {
   pair-single-or-not = refl;
   pair-beliefs-pass = refl;
   pair-beliefs-stable = refl;
+  turns-are = refl;
+  shares-finished = refl;
+  shares-fit = refl;
+  shares-by-rounds = refl;
+  shares-in-order = refl;
+  shares-nine = refl;
+  shares-denied = refl;
+  buffers-lent = refl;
 }

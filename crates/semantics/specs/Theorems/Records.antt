@@ -49,7 +49,7 @@ guess-below {s} {n} {buffer} o i h =
     let (g, _, _, _, l, _, _, e) = o .four-words i h in
     subst (λ z. z < 2 ^ k s) (sym (ap (λ r. getD r 0 0) e) ∙ first-word buffer (4 * i)) l
 
-none : View
+pub none : View
 none = record { guess = 0; known = 0; possible = 0; sets = 0 }
 
 -- the words of so many views
@@ -61,13 +61,13 @@ unfolding flat
 words-long [] = refl
 words-long (v ∷ vs) = omega (arith, words-long vs)
 
-record-at : (vs : List View) (rest : List ℕ) (i : ℕ) → i < length vs → recordAt (words vs ++ rest) i ≡ recordOf (getD vs i none)
+pub record-at : (vs : List View) (rest : List ℕ) (i : ℕ) → i < length vs → recordAt (words vs ++ rest) i ≡ recordOf (getD vs i none)
 unfolding flat
 record-at [] rest i h = absurd (not-suc-le-zero h)
 record-at (v ∷ vs) rest zero h = refl
 record-at (v ∷ vs) rest (suc i) h = ap (λ m. take 4 (drop m (words (v ∷ vs) ++ rest))) (next i) ∙ record-at vs rest i (le-of-suc-le-suc h)
 
-guess-at : (vs : List View) (rest : List ℕ) (i : ℕ) → i < length vs → guessAt (words vs ++ rest) i ≡ getD vs i none .guess
+pub guess-at : (vs : List View) (rest : List ℕ) (i : ℕ) → i < length vs → guessAt (words vs ++ rest) i ≡ getD vs i none .guess
 unfolding flat
 guess-at [] rest i h = absurd (not-suc-le-zero h)
 guess-at (v ∷ vs) rest zero h = refl

@@ -95,7 +95,7 @@ module _ (s : Setting) where
   dec-ruled : (g : ℕ) → Decides (Ruled g) (ruled s g)
   dec-ruled g = dec-and (dec-not (dec-covered s g)) (dec-contradicted s g)
 
-  dec-tested : (g : ℕ) → Decides (Tested g) (tested s g)
+  pub dec-tested : (g : ℕ) → Decides (Tested g) (tested s g)
   dec-tested g = dec-and (dec-not (dec-covered s g)) (dec-not (dec-ruled g))
 
   -- the six numbers are those of the guesses that bear the names, and the two sums

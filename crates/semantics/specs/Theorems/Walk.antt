@@ -72,7 +72,7 @@ unfolding walk
 walk-more s l g = foldl-snoc (advance s) start l g
 
 -- the six numbers, by how guesses of a name are counted
-abbrev tallyBy : Setting → ((ℕ → Bool) → ℕ) → Tally
+abbrev pub tallyBy : Setting → ((ℕ → Bool) → ℕ) → Tally
 tallyBy s count = record {
   views = count (isWorldView s);
   covered = count (covered s);
@@ -88,7 +88,7 @@ module _ (s : Setting) where
   meant d = record { met = viewsAlong s d; tally = tallyBy s (λ f. length (keep f d)) }
 
   -- it sees a view that covers g
-  abbrev seen : List ℕ → ℕ → Bool
+  abbrev pub seen : List ℕ → ℕ → Bool
   seen d g = some (λ v. g ⊂? v .guess) (viewsAlong s d)
 
   -- and after one more, where it sees rightly whether that is covered
@@ -132,7 +132,7 @@ module _ (s : Setting) where
         (among-append d .0 (subst (λ z. h among z) (sym e) (en .all h lh)))
 
     -- so the views met cover g exactly where a world view does
-    sees-covered : (d r : List ℕ) (g : ℕ) → d ++ g ∷ r ≡ l → seen d g ≡ covered s g
+    pub sees-covered : (d r : List ℕ) (g : ℕ) → d ++ g ∷ r ≡ l → seen d g ≡ covered s g
     unfolding viewsAlong
     sees-covered d r g e =
         let is-below : Below (k s) d = λ h m. en .below h (subst (λ z. h among z) e (among-append d .1 (inl m))) in
@@ -146,11 +146,17 @@ module _ (s : Setting) where
         ) (dec-some (λ v. g ⊂? v .guess) (λ v. g ⊂ v .guess) (viewsAlong s d) (λ v _. dec-⊂ g (v .guess))))
         (dec-covered s g)
 
-    walk-from : (r d : List ℕ) → d ++ r ≡ l → foldl (advance s) (meant d) r ≡ meant l
-    walk-from [] d e = ap meant (sym (append-nil d) ∙ e)
-    walk-from (g ∷ r) d e =
-        ap (λ x. foldl (advance s) x r) (meant-more d g (en .below g (among-middle d g r e)) (sees-covered d r g e))
-        ∙ walk-from r (d ++ g ∷ []) (append-assoc d (g ∷ []) r ∙ e)
+    walk-from : (r d rest : List ℕ) → d ++ (r ++ rest) ≡ l → foldl (advance s) (meant d) r ≡ meant (d ++ r)
+    walk-from [] d rest e = ap meant (sym (append-nil d))
+    walk-from (g ∷ r) d rest e =
+        let at : d ++ g ∷ (r ++ rest) ≡ l = e in
+        ap (λ x. foldl (advance s) x r) (meant-more d g (en .below g (among-middle d g (r ++ rest) at)) (sees-covered d (r ++ rest) g at))
+        ∙ walk-from r (d ++ g ∷ []) rest (append-assoc d (g ∷ []) (r ++ rest) ∙ at) ∙ ap meant (append-assoc d (g ∷ []) r)
+
+    -- on the way, after the guesses d: the views of the world views among them, and as many of each name
+    pub walk-part : (d rest : List ℕ) → d ++ rest ≡ l → walk s d ≡ record { met = viewsAlong s d; tally = tallyBy s (λ f. length (keep f d)) }
+    unfolding walk meant viewsAlong keep
+    walk-part d rest e = walk-from d [] rest e
 
     -- as many along the list as among all guesses
     pub count-along : (f : ℕ → Bool) → length (keep f l) ≡ length (keep f (guesses s))
@@ -162,4 +168,4 @@ module _ (s : Setting) where
 
     pub walk-is : walk s l ≡ record { met = viewsAlong s l; tally = tallyOf s }
     unfolding walk meant tallyOf viewsAlong keep
-    walk-is = walk-from l [] refl ∙ λ i. record { met = viewsAlong s l; tally = tallyBy s (λ f. count-along f i) }
+    walk-is = walk-from l [] [] (append-nil l) ∙ λ i. record { met = viewsAlong s l; tally = tallyBy s (λ f. count-along f i) }
