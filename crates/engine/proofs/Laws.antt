@@ -25,15 +25,16 @@ use Rattle.guess.specs.declared.outline.Outline.{Outline}
 use Rattle.guess.specs.Programs.{settingIn, Outlines}
 use Rattle.verdict.specs.declared.Verdict.{Verdict as Answer}
 use Rattle.verdict.specs.Verdicts.{verdictOf}
-use Rattle.engine.specs.declared.source.Source.{Source}
-use Rattle.engine.specs.declared.source.Source.the-variants.{Accepted, Refused}
+use Rattle.source.specs.declared.Source.{Source}
+use Rattle.source.specs.declared.Source.the-variants.{Accepted, Refused}
+use Rattle.source.specs.Sources.{Reads}
+use Rattle.source.proofs.Read.{reads-accepted, outlined, reads-refused}
 use Rattle.engine.specs.declared.Checked.{Checked}
 use Rattle.engine.specs.declared.Judged.{Judged}
 use Rattle.engine.specs.declared.Counted.{Counted}
 use Rattle.engine.specs.declared.Listed.{Listed}
 use Rattle.engine.specs.declared.Queried.{Queried}
 use Rattle.engine.specs.Answers.{checked, judged, counted, listed, queried}
-use Rattle.engine.specs.Sources.{Reads, Within, Outlined}
 use Rattle.engine.specs.Demand1.{CheckDemand, check-demand}
 use Rattle.engine.specs.Demand2.{VerdictDemand, verdict-demand, SetsDemand, sets-demand}
 use Rattle.engine.specs.Demand3.{AsListed, ListingDemand, listing-demand}
@@ -41,26 +42,6 @@ use Rattle.engine.specs.Queries.{QueryDemand, query-demand}
 use Rattle.engine.specs.Hours.{MinuteDemand, minute-demand, ChangesDemand, changes-demand}
 use Rattle.engine.specs.Opposites.{SetsOpposites, sets-opposites}
 use Rattle.engine.specs.Days.{AsCounted, VerdictDay, verdict-day, SetsDay, sets-day, ListingDay, listing-day, QueryDay, query-day}
-
--- ---- what was read
-module _ (from : Returned Setting) (words : List ℕ) where
-  pub within : (r : Source) → Reads from r words → Within r
-  within (Accepted x) h = h .0 .few-negations
-  within (Refused number place) h = tt
-
-  pub reads-accepted : (r : Source) {x : Outline} → Reads from r words → r ≡ Accepted x → Outlines x words × (from ≡ accepted (settingIn x words))
-  reads-accepted r h e = subst (λ z. Reads from z words) e h
-
-  pub outlined : (r : Source) {x : Outline} → Reads from r words → r ≡ Accepted x → Outlines x words
-  outlined r h e = reads-accepted r h e .0
-
-  -- whatever was read
-  pub outlined-so : (r : Source) → Reads from r words → Outlined r words
-  outlined-so (Accepted x) h = h .0
-  outlined-so (Refused number place) h = tt
-
-  pub reads-refused : (r : Source) {number place : ℕ} → Reads from r words → r ≡ Refused number place → from ≡ refusal number place
-  reads-refused r h e = subst (λ z. Reads from z words) e h
 
 -- ---- a call for a guess: r is what was read, with the guess judged
 module _ (from : Returned Setting) (g : ℕ) (words : List ℕ) (r : Source) (h : Reads (forGuess from g) r words) where

@@ -1,11 +1,11 @@
 // The listing in the built-in order, of rules in words and of what was read.
 use super::Listed;
-use super::source::Source;
 use guess::outline::Outline;
 use listing::outcomes::Tally;
 use listing::records::write_records;
 use listing::walk;
 use order::guesses;
+use source::Source;
 ghost use mathlib.Core.Path.{_≡_};
 ghost use Prim.Native.Nat.{_*_, _≤_};
 ghost use lib.ListN.{length};
@@ -14,7 +14,8 @@ ghost use Rattle.semantics.specs.Walk.{recordsRoom};
 ghost use Rattle.guess.specs.Programs.{settingIn, Outlines};
 ghost use Rattle.listing.specs.Records.{viewsIn};
 ghost use Rattle.listing.specs.Outcomes.{tallyFrom};
-ghost use Rattle.engine.specs.Sources.{Outlined, Lists};
+ghost use Rattle.source.specs.Sources.{Outlined};
+ghost use Rattle.engine.specs.Sources.{Lists};
 
 // The six counts; and the records of the world views, in the first words of `records`. What the words after them hold then is left open.
 pub fn list_in_order(words: &[u16], x: Outline, records: &mut [u16]) -> Tally

@@ -6,9 +6,10 @@ use lib.Seq.{length-take-le}
 use Rattle.semantics.specs.Definitions.Day.{ofDay}
 use Rattle.semantics.specs.Definitions.Returned.{refusal}
 use Rattle.semantics.specs.Definitions.Calls.{forGuess, beliefSetsCall}
+use Rattle.source.specs.Sources.{Reads}
+use Rattle.source.proofs.Read.{within, outlined}
 use Rattle.engine.specs.declared.Counted.the-variants.{Accepted, Refused}
-use Rattle.engine.specs.Sources.{Reads}
-use Rattle.engine.proofs.Laws.{within, outlined, guess-fits, sets-returned, too-short, sets-turned-back, kept, filled, sets-met}
+use Rattle.engine.proofs.Laws.{guess-fits, sets-returned, too-short, sets-turned-back, kept, filled, sets-met}
 use borrow.Author.Needs.{needs}
 use Rattle.engine.proofs.belief_sets.Statement.{statement}
 use Rattle.engine.proofs.belief_sets.Tie as tie

@@ -7,9 +7,10 @@ use lib.Seq.{length-take-le}
 use Rattle.semantics.specs.Definitions.Returned.{refusal}
 use Rattle.semantics.specs.Definitions.Calendar.{changesCall}
 use Rattle.semantics.specs.Theorems.CalendarCalls.{changes-refused}
+use Rattle.source.proofs.Calendars.{turned-back, entries-stand}
 use Rattle.engine.specs.declared.Counted.the-variants.{Accepted, Refused}
 use Rattle.engine.proofs.Laws.{kept, filled, changes-met}
-use Rattle.engine.proofs.Calendars.{turned-back, entries-stand, minutes-returned, minutes-short}
+use Rattle.engine.proofs.Minutes.{minutes-returned, minutes-short}
 use borrow.Author.Needs.{needs}
 use Rattle.engine.proofs.changes.Statement.{statement}
 use Rattle.engine.proofs.changes.Tie as tie

@@ -1,6 +1,7 @@
 -- `engine::list` meets its contract. Assumes nothing.
 use Rattle.semantics.specs.Definitions.Day.{ofDay}
-use Rattle.engine.proofs.Laws.{outlined-so, listing-met}
+use Rattle.source.proofs.Read.{outlined-so}
+use Rattle.engine.proofs.Laws.{listing-met}
 use borrow.Author.Needs.{needs}
 use Rattle.engine.proofs.list.Statement.{statement}
 use Rattle.engine.proofs.list.Tie as tie

@@ -1,6 +1,7 @@
 -- `engine::list_at` meets its contract. Assumes nothing.
 use Rattle.semantics.specs.Definitions.Calendar.{ofMinute}
-use Rattle.engine.proofs.Laws.{outlined-so, minute-met}
+use Rattle.source.proofs.Read.{outlined-so}
+use Rattle.engine.proofs.Laws.{minute-met}
 use borrow.Author.Needs.{needs}
 use Rattle.engine.proofs.list_at.Statement.{statement}
 use Rattle.engine.proofs.list_at.Tie as tie

@@ -5,9 +5,10 @@ use Rattle.semantics.specs.Definitions.Day.{ofDay}
 use Rattle.semantics.specs.Definitions.Returned.{accepted}
 use Rattle.semantics.specs.Definitions.Calls.{forAtom}
 use Rattle.listing.specs.Records.{viewsIn}
+use Rattle.source.specs.Sources.{Reads}
+use Rattle.source.proofs.Read.{outlined}
 use Rattle.engine.specs.declared.Queried.the-variants.{None, Refused}
-use Rattle.engine.specs.Sources.{Reads}
-use Rattle.engine.proofs.Laws.{outlined, is-atom, answers-query, query-turned-back, query-met}
+use Rattle.engine.proofs.Laws.{is-atom, answers-query, query-turned-back, query-met}
 use Rattle.engine.proofs.Answered.{answers-none, answers-three}
 use borrow.Author.Needs.{needs}
 use Rattle.engine.proofs.query.Statement.{statement}

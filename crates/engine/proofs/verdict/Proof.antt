@@ -2,9 +2,10 @@
 use native.Mathlib.Omega.{arith}
 use Rattle.semantics.specs.Definitions.Day.{ofDay}
 use Rattle.semantics.specs.Definitions.Calls.{forGuess}
+use Rattle.source.specs.Sources.{Reads}
+use Rattle.source.proofs.Read.{within, outlined}
 use Rattle.engine.specs.declared.Judged.the-variants.{Empty, Other, Verified, Refused}
-use Rattle.engine.specs.Sources.{Reads}
-use Rattle.engine.proofs.Laws.{within, outlined, guess-fits, judged-as, verdict-turned-back, verdict-met}
+use Rattle.engine.proofs.Laws.{guess-fits, judged-as, verdict-turned-back, verdict-met}
 use borrow.Author.Needs.{needs}
 use Rattle.engine.proofs.verdict.Statement.{statement}
 use Rattle.engine.proofs.verdict.Tie as tie

@@ -9,9 +9,9 @@ use Rattle.semantics.specs.Definitions.Calls.{listCall, recordsOf}
 use Rattle.listing.specs.Records.{viewsIn-long}
 use Rattle.guess.specs.declared.outline.Outline.{Outline}
 use Rattle.guess.specs.Programs.{Outlines}
-use Rattle.engine.specs.declared.source.Source.{Source}
-use Rattle.engine.specs.declared.source.Source.the-variants as sources
-use Rattle.engine.specs.Sources.{Outlined}
+use Rattle.source.specs.declared.Source.{Source}
+use Rattle.source.specs.declared.Source.the-variants as sources
+use Rattle.source.specs.Sources.{Outlined}
 use Rattle.engine.proofs.Laws.{list-returned, list-short, list-turned-back, kept, filled}
 use borrow.Author.Needs.{needs}
 use Rattle.engine.proofs.in_order.list_from.Statement.{statement}

@@ -9,10 +9,10 @@ use Rattle.semantics.specs.Definitions.Calls.{providedBelow}
 use Rattle.semantics.specs.Theorems.Source.{below-accepted, below-refused}
 use Rattle.guess.specs.declared.outline.Outline.{Outline}
 use Rattle.guess.specs.Programs.{settingIn, Outlines}
-use Rattle.engine.specs.declared.source.Source.{Source}
-use Rattle.engine.specs.declared.source.Source.the-variants.{Accepted, Refused}
-use Rattle.engine.specs.Sources.{Reads, ReadsOn}
-use Rattle.engine.proofs.Laws.{reads-accepted, reads-refused}
+use Rattle.source.specs.declared.Source.{Source}
+use Rattle.source.specs.declared.Source.the-variants.{Accepted, Refused}
+use Rattle.source.specs.Sources.{Reads, ReadsOn}
+use Rattle.source.proofs.Read.{reads-accepted, reads-refused}
 
 -- its bound, which the code has from the outline, and its refusal
 pub record Limit : Type 0 where

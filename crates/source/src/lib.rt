@@ -1,5 +1,7 @@
-// The source of a call: the rules of a program with K and M in words of the call's own, eight a rule, and their outline; or the refusal that
-// comes before. 568 words have room for 64 rules and 7 pairs.
+// The source of a call: a sheet under the day's masks, or at a minute, as the rules of a program with K and M in words of the call's own,
+// eight a rule, and their outline; or the refusal that comes before. 568 words have room for 64 rules and 7 pairs.
+pub mod minute;
+
 use guess::outline::Outline;
 use opened::load;
 use sets::meets;
@@ -13,7 +15,7 @@ ghost use Rattle.semantics.specs.Words.{programRoom};
 ghost use Rattle.semantics.specs.Definitions.Sheet.{mostAtoms};
 ghost use Rattle.semantics.specs.Definitions.Day.{masksFit, ofDay};
 ghost use Rattle.semantics.specs.Definitions.Calls.{forGuess, forAtom};
-ghost use Rattle.engine.specs.Sources.{Reads, Within, ReadsOn};
+ghost use Rattle.source.specs.Sources.{Reads, Within, ReadsOn};
 
 pub enum Source {
     Accepted(Outline),

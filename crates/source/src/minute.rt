@@ -1,5 +1,5 @@
 // A sheet with a calendar: what both say, and the source at a minute.
-use super::source::Source;
+use super::Source;
 use calendar::Step;
 use calendar::in_force;
 use calendar::read;
@@ -13,7 +13,7 @@ ghost use Prim.Native.Nat.{_*_, _≤_};
 ghost use lib.ListN.{length};
 ghost use Rattle.semantics.specs.Words.{programRoom};
 ghost use Rattle.semantics.specs.Definitions.Calendar.{mostEntries, ofMinute};
-ghost use Rattle.engine.specs.Sources.{Reads, ReadsBoth};
+ghost use Rattle.source.specs.Sources.{Reads, ReadsBoth};
 
 // What a sheet says, and how many entries of its calendar stand in words; or the refusal of one of them.
 pub enum Scheduled {

@@ -1,10 +1,10 @@
--- `engine::source::masks_fit` meets its contract. Assumes nothing.
+-- `source::masks_fit` meets its contract. Assumes nothing.
 use mathlib.Core.Path.{ap₂}
 use mathlib.Core.Bool.{not, _&&_}
 use lib.Dec.{ltb}
 use borrow.Author.Needs.{needs}
-use Rattle.engine.proofs.source.masks_fit.Statement.{statement}
-use Rattle.engine.proofs.source.masks_fit.Tie as tie
+use Rattle.source.proofs.masks_fit.Statement.{statement}
+use Rattle.source.proofs.masks_fit.Tie as tie
 
 cast-power : tie.Need-cast-power
 cast-power c = search needs

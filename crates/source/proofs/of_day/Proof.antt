@@ -1,13 +1,13 @@
--- `engine::source::of_day` meets its contract. Assumes nothing.
+-- `source::of_day` meets its contract. Assumes nothing.
 use mathlib.Core.Path.{refl, sym, _∙_}
 use native.Mathlib.Omega.{arith}
 use borrow.Author.Tests.{not-true, not-false}
 use Rattle.semantics.specs.Definitions.Check.{opened}
 use Rattle.sheet.specs.Opened.{opened-as}
-use Rattle.engine.proofs.Opened.{few-atoms, few-loaded, day-reads, day-reads-bad, day-reads-refused}
+use Rattle.source.proofs.Opened.{few-atoms, few-loaded, day-reads, day-reads-bad, day-reads-refused}
 use borrow.Author.Needs.{needs}
-use Rattle.engine.proofs.source.of_day.Statement.{statement}
-use Rattle.engine.proofs.source.of_day.Tie as tie
+use Rattle.source.proofs.of_day.Statement.{statement}
+use Rattle.source.proofs.of_day.Tie as tie
 
 open-requires : tie.Need-open-requires
 open-requires c κs = search needs

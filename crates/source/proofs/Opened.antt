@@ -27,8 +27,8 @@ use Rattle.sheet.specs.Opened.{contents, openedOf, opened-as, opened-refused, H
 use Rattle.opened.specs.Loaded.{Loads}
 use Rattle.guess.specs.declared.outline.Outline.{Outline}
 use Rattle.guess.specs.Programs.{unmaskedIn, Outlines}
-use Rattle.engine.specs.declared.source.Source.the-variants.{Accepted, Refused}
-use Rattle.engine.specs.Sources.{Reads}
+use Rattle.source.specs.declared.Source.the-variants.{Accepted, Refused}
+use Rattle.source.specs.Sources.{Reads}
 
 abbrev pub outlineOf : Contents → (rules ins outs : ℕ) → Outline
 outlineOf x rules ins outs = record {

@@ -1,9 +1,9 @@
--- `engine::minute::with_calendar` meets its contract. Assumes nothing.
+-- `source::minute::with_calendar` meets its contract. Assumes nothing.
 use mathlib.Core.Path.{refl, sym, _∙_}
-use Rattle.engine.proofs.Calendars.{both-read, calendar-turned-back, sheet-turned-back}
+use Rattle.source.proofs.Calendars.{both-read, calendar-turned-back, sheet-turned-back}
 use borrow.Author.Needs.{needs}
-use Rattle.engine.proofs.minute.with_calendar.Statement.{statement}
-use Rattle.engine.proofs.minute.with_calendar.Tie as tie
+use Rattle.source.proofs.minute.with_calendar.Statement.{statement}
+use Rattle.source.proofs.minute.with_calendar.Tie as tie
 
 open-requires : tie.Need-open-requires
 open-requires c κs = search needs

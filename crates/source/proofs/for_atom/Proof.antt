@@ -1,10 +1,10 @@
--- `engine::source::for_atom` meets its contract. Assumes nothing.
+-- `source::for_atom` meets its contract. Assumes nothing.
 use native.Mathlib.Omega.{arith}
 use Rattle.semantics.specs.Definitions.Calls.{forAtom}
-use Rattle.engine.proofs.Checks.{atoms, still-refused, not-below, below}
+use Rattle.source.proofs.Checks.{atoms, still-refused, not-below, below}
 use borrow.Author.Needs.{needs}
-use Rattle.engine.proofs.source.for_atom.Statement.{statement}
-use Rattle.engine.proofs.source.for_atom.Tie as tie
+use Rattle.source.proofs.for_atom.Statement.{statement}
+use Rattle.source.proofs.for_atom.Tie as tie
 
 enum-known-source : tie.Need-enum-known-source
 enum-known-source c = search needs

@@ -1,17 +1,17 @@
--- `engine::source::for_guess` meets its contract. Assumes nothing.
+-- `source::for_guess` meets its contract. Assumes nothing.
 use mathlib.Core.Path.{_≡_, subst}
 use native.Mathlib.Omega.{arith}
 use Prim.Native.Nat.{_≤_}
 use Rattle.semantics.specs.Definitions.Check.{mostNegations}
 use Rattle.semantics.specs.Definitions.Calls.{forGuess}
 use Rattle.guess.specs.declared.outline.Outline.{Outline}
-use Rattle.engine.specs.declared.source.Source.{Source}
-use Rattle.engine.specs.declared.source.Source.the-variants.{Accepted}
-use Rattle.engine.specs.Sources.{Within}
-use Rattle.engine.proofs.Checks.{guesses, still-refused, not-below, below}
+use Rattle.source.specs.declared.Source.{Source}
+use Rattle.source.specs.declared.Source.the-variants.{Accepted}
+use Rattle.source.specs.Sources.{Within}
+use Rattle.source.proofs.Checks.{guesses, still-refused, not-below, below}
 use borrow.Author.Needs.{needs}
-use Rattle.engine.proofs.source.for_guess.Statement.{statement}
-use Rattle.engine.proofs.source.for_guess.Tie as tie
+use Rattle.source.proofs.for_guess.Statement.{statement}
+use Rattle.source.proofs.for_guess.Tie as tie
 
 few : (r : Source) {x : Outline} → Within r → r ≡ Accepted x → x .negations ≤ mostNegations
 few r h e = subst Within e h

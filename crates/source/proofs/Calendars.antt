@@ -12,18 +12,17 @@ use Rattle.sets.specs.Members.{dec-∈}
 use Rattle.semantics.specs.Definitions.Sheet.{Sheet, atoms, ruleOfMasks, mostAtoms, mostRules}
 use Rattle.semantics.specs.Definitions.Setting.{settingOf, k}
 use Rattle.semantics.specs.Definitions.Check.{mostNegations, setting, opened}
-use Rattle.semantics.specs.Definitions.Calendar.{Entry, lastMinute, mostEntries, calendarOf, inForce, atMinute, rulesInForce, minutesOfChange, ofMinute, changesCall}
-use Rattle.semantics.specs.Definitions.Returned.{accepted, refusal}
+use Rattle.semantics.specs.Definitions.Calendar.{Entry, lastMinute, mostEntries, calendarOf, inForce, atMinute, rulesInForce, ofMinute}
+use Rattle.semantics.specs.Definitions.Returned.{accepted}
 use Rattle.semantics.specs.Definitions.Day.{under}
 use Rattle.semantics.specs.Words.{programRoom, pairsWritten, rulesIn}
 use Rattle.semantics.specs.Theorems.Accepted.{accepted-read}
-use Rattle.semantics.specs.Theorems.Returned.{fits-limited, short-limited}
 use Rattle.semantics.specs.Theorems.CalendarExact.{calendar-read}
 use Rattle.semantics.specs.Theorems.InForce.{AllProper, ∈-rulesInForce}
 use Rattle.semantics.specs.Theorems.Minute.{minute-fits}
 use Rattle.semantics.specs.Theorems.Opposites.{opposed-below, pairs-as-rules}
 use Rattle.semantics.specs.Theorems.Day.{under-nothing}
-use Rattle.semantics.specs.Theorems.CalendarCalls.{Both, TurnedAway, minute-given, minute-refused, changes-given}
+use Rattle.semantics.specs.Theorems.CalendarCalls.{Both, TurnedAway, minute-given, minute-refused}
 use Rattle.sheet.specs.declared.Contents.{Contents}
 use Rattle.sheet.specs.declared.Opened.the-variants as answers
 use Rattle.sheet.specs.Opened.{contents, openedOf, opened-as, opened-refused, Holds}
@@ -34,11 +33,11 @@ use Rattle.calendar.specs.Entries.{entriesIn, Entries}
 use Rattle.calendar.specs.Steps.{ReadInto, was-field, was-refused}
 use Rattle.guess.specs.declared.outline.Outline.{Outline}
 use Rattle.guess.specs.Programs.{unmaskedIn, settingIn, WithinLimits, Outlines}
-use Rattle.engine.specs.declared.source.Source.the-variants.{Accepted, Refused}
-use Rattle.engine.specs.declared.minute.Scheduled.{Scheduled}
-use Rattle.engine.specs.declared.minute.Scheduled.the-variants as schedules
-use Rattle.engine.specs.Sources.{Reads, ReadsBoth}
-use Rattle.engine.proofs.Opened.{few-loaded}
+use Rattle.source.specs.declared.Source.the-variants.{Accepted, Refused}
+use Rattle.source.specs.declared.minute.Scheduled.{Scheduled}
+use Rattle.source.specs.declared.minute.Scheduled.the-variants as schedules
+use Rattle.source.specs.Sources.{Reads, ReadsBoth}
+use Rattle.source.proofs.Opened.{few-loaded}
 
 -- ---- a sheet, and then a calendar
 module _ (s c words : List ℕ) where
@@ -164,14 +163,3 @@ module _ (s c entries : List ℕ) (r : Scheduled) (h : ReadsBoth s c r entries) 
             let rules : unmaskedIn o words ≡ setting left = ap₂ (λ p q. settingOf p (map ruleOfMasks (rulesIn words q))) a m ∙ means in
             let same : settingIn o words ≡ setting left = (λ j. under (i j) (q j) (rules j)) ∙ under-nothing (setting left) in
             (outlines, minute-given s c minute accepts l ∙ ap accepted (sym same))
-
-    -- ---- the minutes of change
-    module _ (minutes : List ℕ) (listed : minutes ≡ minutesOfChange (entriesIn entries n) (x .rules)) (room : ℕ) where
-      all-minutes : minutesOfChange entries-read (length (sheet-said .rules)) ≡ minutes
-      all-minutes = sym (listed ∙ ap₂ minutesOfChange same-entries (ap (λ z. z .rules) is))
-
-      pub minutes-returned : length minutes ≤ room → changesCall s c room ≡ accepted minutes
-      minutes-returned l = changes-given s c room accepts ∙ rw all-minutes (fits-limited (length minutes) room (length minutes) minutes l)
-
-      pub minutes-short : room < length minutes → changesCall s c room ≡ refusal 9 (length minutes)
-      minutes-short l = changes-given s c room accepts ∙ rw all-minutes (short-limited (length minutes) room (length minutes) minutes l)

@@ -1,13 +1,13 @@
--- `engine::minute::at_minute` meets its contract. Assumes nothing.
+-- `source::minute::at_minute` meets its contract. Assumes nothing.
 use mathlib.Core.Path.{refl}
 use native.Mathlib.Omega.{arith}
 use mathlib.Core.Logic.{inl}
 use Rattle.semantics.specs.Theorems.CalendarCalls.{minute-refused}
-use Rattle.engine.proofs.Opened.{few-loaded}
-use Rattle.engine.proofs.Calendars.{turned-back, entries-stand, holds, minute-over, within-left, minute-reads}
+use Rattle.source.proofs.Opened.{few-loaded}
+use Rattle.source.proofs.Calendars.{turned-back, entries-stand, holds, minute-over, within-left, minute-reads}
 use borrow.Author.Needs.{needs}
-use Rattle.engine.proofs.minute.at_minute.Statement.{statement}
-use Rattle.engine.proofs.minute.at_minute.Tie as tie
+use Rattle.source.proofs.minute.at_minute.Statement.{statement}
+use Rattle.source.proofs.minute.at_minute.Tie as tie
 
 slice-aggregate-with-calendar : tie.Need-slice-aggregate-with-calendar
 slice-aggregate-with-calendar c = search needs
