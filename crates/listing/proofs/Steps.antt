@@ -42,9 +42,10 @@ nothing at ws =
     let e : at + 0 ≡ at = omega arith in
     ap (λ n. take at ws ++ drop n ws) e ∙ take-append-drop at ws
 
-pub covered-noted : (at : ℕ) (ws : List ℕ) → ws ≡ noted at Covered ws
+-- of one that is no view nothing is noted
+pub none-noted : (at : ℕ) (o : Outcome) (ws : List ℕ) → viewsBy o ≡ [] → ws ≡ noted at o ws
 unfolding flat
-covered-noted at ws = sym (nothing at ws)
+none-noted at o ws e = sym (ap (λ vs. placed at (words vs) ws) e ∙ nothing at ws)
 
 -- at most one record
 pub words-few : (o : Outcome) → length (words (viewsBy o)) ≤ 4

@@ -2,3 +2,4 @@
 pub mod Records
 pub mod Outcomes
 pub mod Walks
+pub mod Pauses

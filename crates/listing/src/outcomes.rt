@@ -2,20 +2,21 @@
 use super::records::View;
 use super::records::write_record;
 use guess::outline::Outline;
-use guess::reduct::reduct;
-use propagation::contradicted;
 use verdict::Verdict;
 use verdict::judge;
 ghost use mathlib.Core.Path.{_≡_};
-ghost use Prim.Native.Nat.{_^_, _<_, _≤_};
+ghost use Prim.Native.Nat.{_*_, _^_, _≤_};
 ghost use lib.ListN.{length};
 ghost use Rattle.semantics.specs.Definitions.Check.{mostNegations};
 ghost use Rattle.semantics.specs.Definitions.Returned.{written};
 ghost use Rattle.semantics.specs.Definitions.Listing.{words};
-ghost use Rattle.semantics.specs.Walk.{countedBy, viewsBy};
+ghost use Rattle.semantics.specs.Definitions.Verdict.{verdict};
+ghost use Rattle.semantics.specs.Words.{programRoom, programIn};
+ghost use Rattle.semantics.specs.Walk.{judgedAs, countedBy, viewsBy};
 ghost use Rattle.semantics.specs.Theorems.Tally.{AtMost};
-ghost use Rattle.guess.specs.Programs.{settingIn, Outlines};
-ghost use Rattle.listing.specs.Outcomes.{tallyFrom, outcomeFrom, ExaminedAs};
+ghost use Rattle.guess.specs.Settings.{settingBy};
+ghost use Rattle.guess.specs.Negations.{Few};
+ghost use Rattle.listing.specs.Outcomes.{tallyFrom, outcomeFrom};
 
 // What a guess counts as: covered, ruled, or tested and then by its verdict.
 pub enum Outcome {
@@ -76,17 +77,12 @@ pub fn note(outcome: Outcome, part: &mut [u16])
     write_record(v, &mut part[..]);
 }
 
-// What a guess that is not covered counts as. Its reduct is built once.
-pub fn examine(words: &[u16], x: Outline, guess: u16) -> Outcome
-    requires { ⌜ Outlines x (now words) × (guess < 2 ^ x .negations) ⌝ }
-    ensures { λ r. ⌜ ExaminedAs (settingIn x (now (words .entry))) guess (outcomeFrom r) ⌝ }
+// What a guess that is tested counts as: by the verdict on its reduct, the first rules of a program.
+pub fn judged(program: &[u16], rules: usize, x: Outline, guess: u16) -> Outcome
+    requires { ⌜ (4 * rules ≤ length (now program)) × (rules ≤ programRoom) × Few x ⌝ }
+    ensures { λ r. ⌜ outcomeFrom r ≡ judgedAs guess (verdict (settingBy x (programIn (now (program .entry)) rules)) guess) ⌝ }
 {
-    let mut program = [0u16; 284];
-    let rules = reduct(words, x, guess, &mut program[..]);
-    if contradicted(&program[..], rules, x, guess) {
-        return Outcome::Ruled;
-    }
-    match judge(&program[..], rules, x, guess) {
+    match judge(program, rules, x, guess) {
         Verdict::Empty => Outcome::Empty,
         Verdict::Other(_) => Outcome::Other,
         Verdict::Verified(known, possible, sets) => Outcome::View(View {
