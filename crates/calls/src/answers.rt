@@ -6,6 +6,9 @@ use engine::Counted;
 use engine::Judged;
 use engine::Listed;
 use engine::Queried;
+use engine::Share;
+use engine::Shared;
+use engine::Shares;
 use engine::belief_sets;
 use engine::changes;
 use engine::check;
@@ -124,6 +127,53 @@ fn queried(r: Queried, at: usize, out: &mut [u8]) -> usize
         Queried::Open => accepted(2, at, out),
         Queried::None => accepted(3, at, out),
         Queried::Refused { number, place } => refused(number, place, at, out),
+    }
+}
+
+fn bit(b: bool) -> usize {
+    if b {
+        return 1;
+    }
+    0
+}
+
+// What a sheet got, if its position is below the count.
+fn shared_by(position: usize, count: usize, x: Share, at: usize, out: &mut [u8]) -> usize
+    requires { ⌜ (at ≤ length (now out)) × (1024 ≤ length (now out)) ⌝ }
+    ensures { λ r. ⌜ r ≤ length (now (out .exit)) ⌝ }
+{
+    if position < count {
+        return three(bit(x.finished), x.tests, x.views, at, out);
+    }
+    at
+}
+
+fn shares(x: Shares, count: usize, at: usize, out: &mut [u8]) -> usize
+    requires { ⌜ (at ≤ length (now out)) × (1024 ≤ length (now out)) ⌝ }
+    ensures { λ r. ⌜ r ≤ length (now (out .exit)) ⌝ }
+{
+    let a = accepted(x.tests, at, out);
+    let b = shared_by(0, count, x.first, a, out);
+    let c = shared_by(1, count, x.second, b, out);
+    let d = shared_by(2, count, x.third, c, out);
+    shared_by(3, count, x.fourth, d, out)
+}
+
+// The refusal's number, place and position, or 0, the tests in all, and what each of so many sheets got.
+pub fn shared(r: Shared, count: usize, at: usize, out: &mut [u8]) -> usize
+    requires { ⌜ (at ≤ length (now out)) × (1024 ≤ length (now out)) ⌝ }
+    ensures { λ r. ⌜ r ≤ length (now (out .exit)) ⌝ }
+{
+    match r {
+        Shared::Accepted(x) => shares(x, count, at, out),
+        Shared::Refused {
+            number,
+            place,
+            position,
+        } => {
+            let a = refused(number, place, at, out);
+            field(position, a, out)
+        }
     }
 }
 

@@ -16,7 +16,7 @@ fn next(x: u16) -> u16 {
 }
 
 // Cell i holds (first + i) mod 65,536.
-fn fill(cells: &mut [u16], first: u16) {
+pub fn fill(cells: &mut [u16], first: u16) {
     let mut x = first;
     for i in 0..cells.len() {
         cells[i] = x;

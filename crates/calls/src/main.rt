@@ -14,12 +14,20 @@
 // 4 query              sheet, masks, argument: atom                    0: yes; 1: no; 2: open; 3: none                               as lent
 // 5 list at a minute   sheet, companion: calendar, argument: minute    as 3                                                          words
 // 6 minutes of change  sheet, companion: calendar                      their number                                                  words
+// 7 shared allowance   companion: sheets, argument: allowance          tests in all; for each sheet 1: finished, or 0; tests, views  the buffers
 //
-// A request that is cut off, too long or of another call ends the program, and nothing is printed for it.
+// The companion of 7: one byte, the number of sheets that the call is told; then for each of them, and no more than four: two bytes, its
+// length, at most 2,048, and the sheet; two bytes, the number of cells in its buffer, at most 8,000. Each buffer begins anew at f; they are
+// printed one after the other. A refusal of 7 has the sheet's position after the place.
+//
+// A request that is cut off, too long or of another call ends the program, and nothing is printed for it; so too one of call 7 whose companion
+// is cut off, has bytes left or is over a bound.
 mod answers;
+mod companion;
 mod line;
 mod output;
 mod request;
+mod shared;
 
 use request::request;
 

@@ -1,6 +1,7 @@
 // A request from standard input, field by field. `request`, and each `from_` function from its field on, answers whether the rest was
 // there and within the bounds.
 use super::line::respond;
+use super::shared::respond_shared;
 use libc::STDIN_FILENO;
 ghost use Prim.Native.Nat.{_≤_};
 
@@ -12,14 +13,14 @@ pub struct Asked {
     pub outs: u16,
 }
 
-fn wide(b: u8) -> u16
+pub fn wide(b: u8) -> u16
     ensures { λ r. ⌜ r ≤ 255 ⌝ }
 {
     b as u16
 }
 
 // Two bytes, the low one first.
-fn word(low: u8, high: u8) -> u16 {
+pub fn word(low: u8, high: u8) -> u16 {
     wide(low) + 256 * wide(high)
 }
 
@@ -38,7 +39,11 @@ fn from_cells(asked: Asked, sheet: &[u8], companion: &[u8]) -> bool {
     if 33000 < count {
         return false;
     }
-    respond(asked, sheet, companion, count, word(b[2], b[3]));
+    let first = word(b[2], b[3]);
+    if asked.call == 7 {
+        return respond_shared(companion, asked.argument as usize, first);
+    }
+    respond(asked, sheet, companion, count, first);
     true
 }
 
@@ -85,7 +90,7 @@ pub fn request() -> bool {
     }
     let call = b[0];
     let n = word(b[1], b[2]) as usize;
-    if 6 < call {
+    if 7 < call {
         return false;
     }
     if 2048 < n {

@@ -2,22 +2,24 @@
 // input.
 mod in_order;
 mod lent;
-mod minute;
-mod source;
 mod yes_no_open;
 
 use calendar::minutes_of_change;
 use in_order::list_from;
 use in_order::list_in_order;
 use lent::write;
-use minute::Scheduled;
-use minute::at_minute;
-use minute::with_calendar;
+pub use sharing::Share;
+pub use sharing::Shared;
+pub use sharing::Shares;
+pub use sharing::share;
 use sheet::Opened;
 use sheet::open;
 use source::Source;
 use source::for_atom;
 use source::for_guess;
+use source::minute::Scheduled;
+use source::minute::at_minute;
+use source::minute::with_calendar;
 use source::of_day;
 use verdict::Verdict;
 use verdict::belief_sets as belief_sets_on;

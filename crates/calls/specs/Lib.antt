@@ -1,0 +1,2 @@
+-- Where the sheets of a companion may stand.
+pub mod Within
