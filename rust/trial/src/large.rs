@@ -1,5 +1,5 @@
-//! Named sheets, most of them at the limits, some of them under day masks: for the benchmark and for the comparison of
-//! large listings.
+//! Named sheets, most of them at the limits, some of them under day masks, and four at a time: for the benchmark and for
+//! the comparison of large listings.
 
 use crate::cases::sheets::{free, one_known, twos, SEVEN};
 use crate::known::kiln;
@@ -40,6 +40,27 @@ pub fn masked() -> Vec<(&'static str, Vec<u8>, [u16; 2])> {
         ("free choices, 5 in, 5 out", sheet, [0b01_0101_0101, 0b10_1010_1010]),
         ("15 choices", all.clone(), [0, 0]),
         ("15 choices, 5 in, 5 out", all, [0b11111, 0b11111 << 10]),
+    ]
+}
+
+/// Four of the named sheets with a name, and how many copies of a call are timed: all slow, all fast, some of each.
+pub fn fours() -> Vec<(&'static str, [Vec<u8>; 4], usize)> {
+    let named = named();
+    let sheet = |name: &str| named.iter().find(|(other, _)| *other == name).expect(name).1.clone();
+    let same = |name: &str| [(); 4].map(|()| sheet(name));
+    vec![
+        ("single heads, four times", same("single heads"), 1),
+        ("odd cycle of 15, four times", same("odd cycle of 15"), 1),
+        ("14 choices, four times", same("14 choices, p <- not p"), 1),
+        ("odd cycle of 9, four times", same("odd cycle of 9"), 20),
+        ("twos, four times", same("64 views, twos"), 50),
+        ("nearly all ruled, four times", same("nearly all ruled"), 50),
+        ("three colours, four times", same("three colours"), 1_000),
+        ("kiln, four times", same("kiln"), 10_000),
+        ("single heads last", ["kiln", "three colours", "64 views, twos", "single heads"].map(sheet), 2),
+        ("odd cycle first", ["odd cycle of 15", "kiln", "kiln", "kiln"].map(sheet), 2),
+        ("views, ruled and free", ["81 views, triples", "nearly all ruled", "free choices", "kiln"].map(sheet), 50),
+        ("two slow, two fast", ["odd cycle of 15", "kiln", "single heads", "free choices"].map(sheet), 1),
     ]
 }
 

@@ -2,8 +2,9 @@
 //!
 //! `solver` answers the calls of documents 01 and 02 by another method than the proved ones, and shares no code with
 //! them. `cases` are the requests that are stored for the program `calls`, many with answers by hand. `growth` and `ways`
-//! say of a set of atoms what makes it hard to judge, `readings` how pairs can be read wrongly. The other modules make
-//! sheets, pairs, calendars, day masks and requests, run the programs and take their times.
+//! say of a set of atoms what makes it hard to judge, `readings` how pairs can be read wrongly, `turns` how an allowance
+//! can be shared wrongly. The other modules make sheets, pairs, calendars, day masks and requests, run the programs and
+//! take their times.
 
 pub mod calendars;
 pub mod cases;
@@ -18,9 +19,12 @@ pub mod programs;
 pub mod random;
 pub mod readings;
 pub mod request;
+pub mod sharing;
 pub mod sheets;
 pub mod solver;
+pub mod studios;
 pub mod text;
 pub mod timing;
+pub mod turns;
 pub mod ways;
 pub mod write;

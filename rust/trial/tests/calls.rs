@@ -8,9 +8,11 @@ use trial::masks::{faulty_masks, random_masks, FAULTS};
 use trial::programs::output;
 use trial::random::{seed, Random};
 use trial::request::*;
+use trial::sharing::Sharing;
 use trial::sheets::{random_sheet, Shape};
 use trial::solver::calendar::WEEK;
 use trial::solver::calls::{open, Opened};
+use trial::studios::{accepted_requests, refused_request};
 use trial::write::{calendar, hex};
 
 const SMALL: Shape = Shape { atoms: (0, 4), rules: (0, 6), negations: 4, literals: 3 };
@@ -199,16 +201,21 @@ fn requests_in_small_pieces() {
     let seed = seed();
     let mut random = Random::new(seed, 110);
     for piece in [1, 2, 3, 5, 7, 64] {
-        let requests: Vec<Request> = (0..60).map(|i| random_request(&mut random, i % 7)).collect();
+        let mut requests: Vec<Request> = (0..60).map(|i| random_request(&mut random, i % SHARE)).collect();
+        requests.extend(accepted_requests(&mut random));
+        requests.push(refused_request(&mut random));
         compare(&requests, &[], piece, &format!("seed {seed}, pieces of {piece}"));
     }
 }
 
-/// Each call on the kiln sheet, with day masks and a companion, which is a calendar: all are accepted.
+/// Each call on the kiln sheet, with day masks and a companion, which is a calendar or, for the last call, has the sheet
+/// too: all are accepted.
 fn kiln_requests() -> Vec<Request> {
     let companion = calendar(&[(1, 100, 200)]);
     let request = Request { sheet: kiln(), masks: [1, 2], companion, cells: 5, ..Request::default() };
-    (0..=CHANGES).map(|call| Request { call, ..request.clone() }).collect()
+    let companion = Sharing::of(&[kiln()], &[5]).bytes();
+    let share = Request { call: SHARE, argument: 1, companion, ..request.clone() };
+    (0..SHARE).map(|call| Request { call, ..request.clone() }).chain([share]).collect()
 }
 
 /// The longest requests that are answered, 2,048 bytes of a sheet, 12,288 of a companion and 33,000 cells, which 32,768
@@ -233,41 +240,43 @@ fn the_largest_requests() {
     requests.push(Request { call: CHANGES, companion: vec![0; MOST_COMPANION], ..request(&kiln(), MOST_CELLS) });
     requests.extend(kiln_requests());
     let numbers = by_number(&compare(&requests, &[], 4_096, "the largest requests"));
-    assert_eq!([numbers[0], numbers[9], numbers[6]], [3 + 7, 1, 2]);
+    assert_eq!([numbers[0], numbers[9], numbers[6]], [3 + 8, 1, 2]);
 }
 
 /// "A request that is cut off .. ends the program": nothing is printed for it.
 #[test]
 fn requests_cut_off() {
     let requests = kiln_requests();
-    for last in [LIST, LIST_AT].map(|call| requests[usize::from(call)].bytes()) {
+    for last in [LIST, LIST_AT, SHARE].map(|call| requests[usize::from(call)].bytes()) {
         for length in 0..last.len() {
             compare(&requests[..2], &last[..length], 1 << 16, "a request cut off");
         }
     }
 }
 
-/// A request beyond the limits ends the program: nothing is printed for it, and nothing for what follows.
+/// A request beyond the limits ends the program, of a call too that passes over what is too long: nothing is printed for
+/// it, and nothing for what follows.
 #[test]
 fn requests_beyond_the_limits() {
     let requests = kiln_requests();
-    let good = &requests[3];
-    let sheet = |length| Request { sheet: vec![0; length], ..good.clone() };
-    let companion = |length| Request { companion: vec![0; length], ..good.clone() };
-    let cells = |cells| Request { cells, ..good.clone() };
-    let call = |call| Request { call, ..good.clone() };
-    let bad = [
-        sheet(MOST_SHEET + 1),
-        sheet(65_535),
-        companion(MOST_COMPANION + 1),
-        companion(65_535),
-        cells(MOST_CELLS + 1),
-        cells(65_535),
-        call(CHANGES + 1),
-        call(255),
-    ];
-    for request in bad {
-        let tail = [request.bytes(), good.bytes(), good.bytes()].concat();
-        compare(&requests, &tail, 1 << 16, "a request beyond the limits");
+    for good in [LIST, SHARE].map(|call| &requests[usize::from(call)]) {
+        let sheet = |length| Request { sheet: vec![0; length], ..good.clone() };
+        let companion = |length| Request { companion: vec![0; length], ..good.clone() };
+        let cells = |cells| Request { cells, ..good.clone() };
+        let call = |call| Request { call, ..good.clone() };
+        let bad = [
+            sheet(MOST_SHEET + 1),
+            sheet(65_535),
+            companion(MOST_COMPANION + 1),
+            companion(65_535),
+            cells(MOST_CELLS + 1),
+            cells(65_535),
+            call(SHARE + 1),
+            call(255),
+        ];
+        for request in bad {
+            let tail = [request.bytes(), good.bytes(), good.bytes()].concat();
+            compare(&requests, &tail, 1 << 16, "a request beyond the limits");
+        }
     }
 }

@@ -99,7 +99,7 @@ impl Case {
             cells: random.pick(&[0, 1, 2, 4, 9, 40]),
             first: 50_000,
         };
-        (CHECK..=CHANGES).map(|call| request(call)).collect()
+        (CHECK..=CHANGES).map(&mut request).collect()
     }
 
     /// The list, and the verdict on every guess, without masks.

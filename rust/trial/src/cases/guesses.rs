@@ -81,7 +81,9 @@ fn free_choices() -> Vec<Case> {
             cases.push(Case::new(&title, BELIEF_SETS, &sheet, 0, cells).owing(&by_hand));
         }
         cases.push(verified(&title, &sheet, 0, [0, (1 << atoms) - 1, 1 << atoms]));
-        cases.extend(refusals(&format!("{title}, guess out of range, too few cells"), &sheet, 1, 255, [8, 0]));
+        let [verdict, sets] = refusals(&format!("{title}, guess out of range, too few cells"), &sheet, 1, 255, [8, 0]);
+        cases.push(verdict);
+        cases.extend((atoms == 8).then_some(sets));
     }
     cases
 }
@@ -132,7 +134,9 @@ fn of_twelve() -> Vec<Case> {
             cases.extend(calls(title, &sheet, guess, sizes[guess as usize] + 1));
         }
         for guess in 4094..4097 {
-            cases.extend(calls(&format!("{title}, last guesses and one out of range"), &sheet, guess, 300));
+            let [verdict, sets] = calls(&format!("{title}, last guesses and one out of range"), &sheet, guess, 300);
+            cases.push(verdict);
+            cases.extend((guess == 4095).then_some(sets));
         }
         cases.extend(refusals(title, &sheet, 65_535, 3, [8, 0]));
     }

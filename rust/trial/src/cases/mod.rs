@@ -1,6 +1,7 @@
 //! The cases that `crates/calls` stores: requests, each with the line that is owed for it. Many answers are written by
 //! hand from documents 01 and 02; the second solver must agree with them, and gives the lines.
 
+mod allowances;
 mod calendar;
 mod check;
 mod days;
@@ -14,12 +15,13 @@ mod opposites;
 mod pairs;
 mod queries;
 mod rows;
+pub mod sharing;
 pub mod sheets;
 pub mod small;
 pub mod twelve;
 
 use crate::known::kiln;
-use crate::request::{Request, CHANGES, CHECK};
+use crate::request::{Request, CHECK, SHARE};
 use crate::solver::calls::{open, Opened};
 use crate::solver::refusal::Refusal;
 use std::collections::HashSet;
@@ -114,7 +116,7 @@ impl Case {
 
 /// Every case, some requests more than once.
 fn all() -> impl Iterator<Item = Case> {
-    let parts: [fn() -> Vec<Case>; 13] = [
+    let parts: [fn() -> Vec<Case>; 15] = [
         hand::cases,
         check::cases,
         pairs::cases,
@@ -128,13 +130,15 @@ fn all() -> impl Iterator<Item = Case> {
         masks::cases,
         days::cases,
         opposites::cases,
+        sharing::cases,
+        allowances::cases,
     ];
     parts.into_iter().flat_map(|part| part())
 }
 
 /// An unknown call ends the program, though a request follows: nothing is printed. This comes last.
 fn ending() -> Owed {
-    let unknown = Request { call: CHANGES + 1, sheet: kiln(), ..Request::default() };
+    let unknown = Request { call: SHARE + 1, sheet: kiln(), ..Request::default() };
     let known = Request { call: CHECK, ..unknown.clone() };
     let title = "an unknown call and another request".to_string();
     Owed { title, request: [unknown.bytes(), known.bytes()].concat(), line: String::new() }

@@ -1,9 +1,9 @@
-//! The calls of document 01 and of K1, K3, K5 and K7 of document 02, with their refusals and what they leave in lent
-//! buffers.
+//! The calls on one sheet, of document 01 and of K1, K3, K5 and K7 of document 02, with their refusals and what they
+//! leave in lent buffers.
 
 use super::calendar::{self, Calendar, WEEK};
 use super::guess::Guess;
-use super::listing::{Listing, Program, Verdict};
+use super::listing::{Counted, Listing, Program, Verdict};
 use super::refusal::Refusal;
 use super::sheet::read;
 use super::{has, meet, Set};
@@ -76,6 +76,11 @@ impl Opened {
     /// The world views and the six counts.
     pub fn listing(&self) -> &Listing {
         self.listing.get_or_init(|| self.program.listing())
+    }
+
+    /// Every guess in the order of the listing, and how it counts.
+    pub fn counted(&self) -> Vec<(Guess, Counted)> {
+        self.program.counted()
     }
 
     /// The six counts, and the records written into `out`; refusal 9.

@@ -40,6 +40,14 @@ impl View {
     }
 }
 
+/// How a guess counts in the listing; a tested one by its verdict too.
+#[derive(Clone, Copy, Debug, PartialEq, Eq)]
+pub enum Counted {
+    Covered,
+    Ruled,
+    Tested(Verdict),
+}
+
 /// The world views in order, and how many guesses are views, covered, ruled, tested, empty, other.
 #[derive(Clone, Debug, PartialEq, Eq)]
 pub struct Listing {
@@ -105,32 +113,43 @@ impl Program {
 
     /// The listing, by judging every guess; at most 15 negations.
     pub fn listing(&self) -> Listing {
-        let verdicts: Vec<Verdict> = (0..1 << self.negations.len()).map(|guess| self.verdict(guess)).collect();
+        let verdicts = self.verdicts();
         let views = world_views(&verdicts);
         let mut counts = [0; 6];
         for (guess, &verdict) in (0..).zip(&verdicts) {
-            for name in self.names(guess, verdict, &views) {
+            for name in names(self.counted_as(guess, verdict, &views)) {
                 counts[name as usize] += 1;
             }
         }
         Listing { views, counts }
     }
 
-    /// The names that a guess bears: "each guess counts once", and a tested one by its verdict too.
-    fn names(&self, guess: Guess, verdict: Verdict, views: &[View]) -> Vec<Name> {
+    /// Every guess in the order of the listing, and how it counts.
+    pub fn counted(&self) -> Vec<(Guess, Counted)> {
+        let verdicts = self.verdicts();
+        let views = world_views(&verdicts);
+        let judged = (0..).zip(&verdicts);
+        let mut counted: Vec<(Guess, Counted)> =
+            judged.map(|(guess, &verdict)| (guess, self.counted_as(guess, verdict, &views))).collect();
+        counted.sort_by(|a, b| order(a.0, b.0));
+        counted
+    }
+
+    /// The verdict on each guess, by rising number.
+    fn verdicts(&self) -> Vec<Verdict> {
+        (0..1 << self.negations.len()).map(|guess| self.verdict(guess)).collect()
+    }
+
+    /// "Each guess counts once."
+    fn counted_as(&self, guess: Guess, verdict: Verdict, views: &[View]) -> Counted {
         if views.iter().any(|view| properly_within(guess, view.guess)) {
-            return vec![Name::Covered];
+            return Counted::Covered;
         }
         if self.is_contradicted(guess) {
             assert!(!matches!(verdict, Verdict::Verified { .. }), "guess {guess} is verified and contradicted");
-            return vec![Name::Ruled];
+            return Counted::Ruled;
         }
-        let name = match verdict {
-            Verdict::Empty => Name::Empty,
-            Verdict::Other { .. } => Name::Other,
-            Verdict::Verified { .. } => Name::Views,
-        };
-        vec![Name::Tested, name]
+        Counted::Tested(verdict)
     }
 }
 
@@ -145,6 +164,17 @@ enum Name {
     Other,
 }
 
+/// The names that a guess bears.
+fn names(counted: Counted) -> Vec<Name> {
+    match counted {
+        Counted::Covered => vec![Name::Covered],
+        Counted::Ruled => vec![Name::Ruled],
+        Counted::Tested(Verdict::Empty) => vec![Name::Tested, Name::Empty],
+        Counted::Tested(Verdict::Other { .. }) => vec![Name::Tested, Name::Other],
+        Counted::Tested(Verdict::Verified { .. }) => vec![Name::Tested, Name::Views],
+    }
+}
+
 /// "A world view is a verified guess of which no proper superset is verified"; size falling, then number rising.
 fn world_views(verdicts: &[Verdict]) -> Vec<View> {
     let verified: Vec<View> = (0..).zip(verdicts).filter_map(|(guess, &verdict)| view(guess, verdict)).collect();
@@ -154,7 +184,8 @@ fn world_views(verdicts: &[Verdict]) -> Vec<View> {
     views
 }
 
-fn view(guess: Guess, verdict: Verdict) -> Option<View> {
+/// A verified guess with its numbers.
+pub fn view(guess: Guess, verdict: Verdict) -> Option<View> {
     match verdict {
         Verdict::Verified { known, possible, sets } => Some(View { guess, known, possible, sets }),
         Verdict::Empty | Verdict::Other { .. } => None,
@@ -165,6 +196,6 @@ fn order(a: Guess, b: Guess) -> Ordering {
     b.count_ones().cmp(&a.count_ones()).then(a.cmp(&b))
 }
 
-fn properly_within(guess: Guess, other: Guess) -> bool {
+pub fn properly_within(guess: Guess, other: Guess) -> bool {
     guess != other && within(guess, other)
 }

@@ -1,9 +1,9 @@
-//! The second solver: every call of document 01 and of K1, K3, K5 and K7 of document 02, from their definitions.
+//! The second solver: every call of document 01 and of K1, K3, K4, K5 and K7 of document 02, from their definitions.
 //!
 //! Stable sets come from a branching search with propagation, minimality from a second search for a smaller model;
 //! every guess is judged by itself, and world views are the verified guesses that are maximal among all verified ones.
 //! A calendar is walked through the week minute by minute. Pairs and day masks become constraints, which are rules like
-//! others.
+//! others. For a shared allowance each sheet is listed to its end, and turns are dealt out afterwards.
 
 pub mod calendar;
 pub mod calls;
@@ -14,6 +14,7 @@ mod reader;
 pub mod refusal;
 pub mod ruling;
 pub mod search;
+pub mod sharing;
 pub mod sheet;
 pub mod stable;
 
