@@ -7,3 +7,5 @@ pub mod Sets
 pub mod Members
 pub mod Size
 pub mod One
+pub mod Parts
+pub mod Least

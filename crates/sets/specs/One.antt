@@ -1,6 +1,6 @@
 -- Sets of one member, and of at most one. Assumes nothing.
 use Prim.Native.Nat.{ℕ, _-_, _/_, _%_, _≤_, _<_}
-use mathlib.Core.Path.{_≡_, sym, ap, _∙_, subst}
+use mathlib.Core.Path.{_≡_, refl, sym, ap, _∙_, subst}
 use mathlib.Core.Bool.{not}
 use mathlib.Core.List.{[], _∷_, List·Memᴰ·head, List·Memᴰ·eq-of-singleton}
 use mathlib.Core.Logic.{⊎-elim}
@@ -59,3 +59,9 @@ pub alone : {x : ℕ} → 0 < x → size x ≤ 1 → OneOf x x
 alone {x} p l =
     let (a, m) = some-member x p in
     (a, m, ∈-ext x (single a) (λ b. (λ n. ∈-single b a .1 (only-one l n m), λ n. subst (λ c. c ∈ x) (sym (∈-single b a .0 n)) m)))
+
+pub size-single : (a : ℕ) → size (single a) ≡ 1
+size-single a =
+    let most = size-most (single a) (a ∷ []) (λ b m. List·Memᴰ·head (∈-single b a .0 m)) in
+    let least = size-least (single a) (a ∷ []) ((λ b k. absurd (nowhere k)), tt) (all-cons (λ b. b ∈ single a) (∈-single a a .1 refl) (λ b k. absurd (nowhere k))) in
+    omega (arith, most, least)
