@@ -67,3 +67,7 @@ pub mod FirstBytes
 pub mod DayCall
 pub mod LeastModel
 pub mod SingleHeads
+-- ---- the rules of a sheet at a set of atoms, for every guess at once
+pub mod On
+pub mod AtSet
+pub mod Need

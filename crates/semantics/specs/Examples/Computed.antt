@@ -77,7 +77,7 @@ pub record Computed : Type 0 where
   pub queries-answered : map (λ p. queryCall (ofSheet (p .0)) (p .1)) queries ≡ map (λ p. p .2) queries
   -- what `views` prints
   pub texts-printed : map (λ p. printed (p .0)) texts ≡ map (λ p. p .1) texts
-  -- limit cases of the sheet, and how long the longest is
+  -- limit cases of the sheet, and how long the longest is (that it is accepted: Longest.antt)
   pub limits : map (λ p. check (p .0)) answers ≡ map (λ p. p .1) answers
   pub longest-bytes : length longest ≡ longestSheet
   -- document 02, K1: calendars as they are read, entries that hold, rules in force

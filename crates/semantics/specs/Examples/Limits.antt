@@ -21,8 +21,7 @@ answers =
     ([], refusal 1 0)
     ∷ (0 ∷ [], refusal 1 1)
     ∷ (0 ∷ 0 ∷ [], refusal 1 2)
-    -- the longest sheet and the shortest, three counts of 0
-    ∷ (longest, accepted (numbers 15 64 0))
+    -- the shortest sheet, three counts of 0
     ∷ (0 ∷ 0 ∷ 0 ∷ [], accepted (numbers 0 0 0))
     -- "15 atoms pass, 16 give 2 at place 0"
     ∷ (letters 15 ++ 0 ∷ 0 ∷ [], accepted (numbers 15 0 0))
