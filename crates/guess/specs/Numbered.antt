@@ -1,8 +1,9 @@
 -- Of a program with K and M and its outline: the negations, as the code numbers them, are those of the definition, and few. Assumes nothing.
-use Prim.Native.Nat.{ℕ, _^_, _≤_}
-use mathlib.Core.Path.{_≡_, sym, ap, _∙_}
+use Prim.Native.Nat.{ℕ, _^_, _≤_, _<_}
+use mathlib.Core.Path.{_≡_, sym, ap, _∙_, subst}
 use mathlib.Core.List.{List, _++_, map}
 use native.Mathlib.Omega.{arith}
+use lib.ListN.{length}
 use lib.Pow.{pow-mono}
 use Rattle.sets.specs.Lists.{only, flat, upTo}
 use Rattle.sets.specs.Sets.{_∈?_}
@@ -32,3 +33,7 @@ module _ {x : Outline} {words : List ℕ} (o : Outlines x words) where
   -- as many words as there are sets of atoms at most
   pub few-sets : 2 ^ x .atoms ≤ 2 ^ mostAtoms
   few-sets = pow-mono (o .few-atoms)
+
+  -- a guess is below 2 to the number of them
+  pub guess-below : {g : ℕ} → g < 2 ^ x .negations → g < 2 ^ length (negationsBy x)
+  guess-below {g} h = subst (λ n. g < 2 ^ n) (o .counted ∙ sym (ap length negations-by)) h
