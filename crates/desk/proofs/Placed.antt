@@ -11,7 +11,7 @@ use Rattle.sets.specs.Lists.{flat}
 use Rattle.semantics.specs.Definitions.Returned.{written}
 use Rattle.semantics.specs.Definitions.Listing.{six, tallied}
 use Rattle.semantics.specs.Definitions.Desk.{bytesOf}
-use Rattle.listing.proofs.Placed.{part, part-written}
+use Rattle.records.proofs.Placed.{part, part-written}
 
 -- ---- six words
 pub six-set : (words : List ℕ) (a b c d e f : ℕ) → 6 ≤ length words

@@ -9,7 +9,7 @@ use Rattle.sets.specs.Lists.{null, every}
 use Rattle.sets.specs.Sets.{_∈?_}
 use Rattle.semantics.specs.Definitions.Listing.{View}
 use Rattle.semantics.specs.Definitions.Query.{Answer, Yes, No, Open, None, yesNoOpen, answerBy}
-use Rattle.listing.specs.Records.{viewsIn, viewsIn-long}
+use Rattle.records.specs.Records.{viewsIn, viewsIn-long}
 
 -- of views and an atom, by the two tests
 module _ (vs : List View) (a : ℕ) where

@@ -1,10 +1,10 @@
 // The listing in the built-in order, of rules in words and of what was read.
 use super::Listed;
 use guess::outline::Outline;
-use listing::outcomes::Tally;
-use listing::records::write_records;
 use listing::walk;
 use order::guesses;
+use records::outcome::Tally;
+use records::write_records;
 use source::Source;
 ghost use mathlib.Core.Path.{_≡_};
 ghost use Prim.Native.Nat.{_*_, _≤_};
@@ -12,8 +12,8 @@ ghost use lib.ListN.{length};
 ghost use Rattle.semantics.specs.Definitions.Listing.{tallyOf, listing};
 ghost use Rattle.semantics.specs.Walk.{recordsRoom};
 ghost use Rattle.guess.specs.Programs.{settingIn, Outlines};
-ghost use Rattle.listing.specs.Records.{viewsIn};
-ghost use Rattle.listing.specs.Outcomes.{tallyFrom};
+ghost use Rattle.records.specs.Records.{viewsIn};
+ghost use Rattle.records.specs.Outcomes.{tallyFrom};
 ghost use Rattle.source.specs.Sources.{Outlined};
 ghost use Rattle.engine.specs.Sources.{Lists};
 

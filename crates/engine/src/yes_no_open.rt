@@ -1,13 +1,13 @@
 // What the records of the world views say of an atom.
 use super::Queried;
-use listing::atoms::known_in_all;
-use listing::atoms::possible_in_none;
+use records::atoms::known_in_all;
+use records::atoms::possible_in_none;
 ghost use mathlib.Core.Path.{_≡_};
 ghost use Prim.Native.Nat.{_*_, _<_, _≤_};
 ghost use lib.ListN.{length};
 ghost use Rattle.semantics.specs.Definitions.Returned.{accepted};
 ghost use Rattle.semantics.specs.Definitions.Query.{yesNoOpen};
-ghost use Rattle.listing.specs.Records.{viewsIn};
+ghost use Rattle.records.specs.Records.{viewsIn};
 ghost use Rattle.engine.specs.Answers.{queried};
 
 // "yes" if each of the first n records has the atom as known, otherwise "no" if none has it as possible, otherwise "open".

@@ -15,7 +15,7 @@ use Rattle.semantics.specs.Walk.{Walked, start, outcome, walk, advance}
 use Rattle.semantics.specs.Theorems.Order.{Enumerates, enumerates-long}
 use Rattle.semantics.specs.Theorems.Tally.{AtMost}
 use Rattle.semantics.specs.Theorems.Walk.{walk-more, walk-is}
-use Rattle.listing.specs.Records.{viewsIn}
+use Rattle.records.specs.Records.{viewsIn}
 use Rattle.listing.specs.Walks.{ListingAlong}
 use Rattle.listing.proofs.Steps.{one-at-most}
 

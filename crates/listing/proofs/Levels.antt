@@ -6,12 +6,9 @@ use mathlib.Core.List.{List, [], _∷_, _++_, append-nil, foldl, List·Memᴰ·e
 use mathlib.Core.Logic.{_⊎_, inl, inr, ⊎-elim}
 use native.Mathlib.Omega.{arith}
 use lib.ListN.{getD}
-use Rattle.sets.specs.Decides.{is-true, is-false}
 use Rattle.sets.specs.Lists.{_among_, here, later, nowhere, among-append, some, getD-upTo}
 use Rattle.sets.specs.Pairwise.{Pairwise, pairwise-snoc, pairwise-prefix, pairwise-places}
-use Rattle.sets.specs.Sets.{_⊆?_, _⊂?_, size}
-use Rattle.sets.specs.Members.{dec-⊆, dec-⊂}
-use Rattle.sets.specs.Size.{size-⊂}
+use Rattle.sets.specs.Sets.{_⊂?_, size}
 use Rattle.semantics.specs.Definitions.Setting.{Setting}
 use Rattle.semantics.specs.Definitions.Verdict.{Verdict, empty, other, verified, verdict}
 use Rattle.semantics.specs.Definitions.Propagation.{contradicted}
@@ -19,21 +16,10 @@ use Rattle.semantics.specs.Definitions.Order.{membersBelow}
 use Rattle.semantics.specs.Definitions.Listing.{View}
 use Rattle.semantics.specs.Walk.{Walked, start, outcomeBy, viewsBy, advance, walk}
 use Rattle.semantics.specs.Theorems.Order.{Enumerates}
-use Rattle.listing.specs.declared.outcomes.Tally.{Tally as Counts}
+use Rattle.records.specs.declared.outcome.Tally.{Tally as Counts}
 use Rattle.listing.specs.Walks.{walkedIn}
-use Rattle.listing.specs.Records.{viewIn, viewsIn, viewsIn-long, LargerFirst}
+use Rattle.records.specs.Records.{viewIn, viewsIn, viewsIn-long, LargerFirst}
 use Rattle.listing.proofs.Along.{passed, passed-begin}
-
--- ---- a guess g against another, h
-module _ (g h : ℕ) where
-  pub covered : (g ⊆? h) ≡ true → size g < size h → (g ⊂? h) ≡ true
-  covered t l = is-true (dec-⊂ g h) (record { within = dec-⊆ g h .yes t; differ = λ e. omega (arith, l, ap size e) })
-
-  pub not-within : (g ⊆? h) ≡ false → (g ⊂? h) ≡ false
-  not-within f = is-false (dec-⊂ g h) (λ s. dec-⊆ g h .no f (s .within))
-
-  pub not-larger : size h ≤ size g → (g ⊂? h) ≡ true → ⊥
-  not-larger l t = omega (arith, l, size-⊂ (dec-⊂ g h .yes t))
 
 -- ---- the views met
 abbrev Falling : List View → Type 0

@@ -12,10 +12,10 @@ use Rattle.semantics.specs.Definitions.Verdict.{verdict}
 use Rattle.semantics.specs.Walk.{Covered, Ruled, outcomeBy, countedBy, advance}
 use Rattle.guess.specs.declared.outline.Outline.{Outline}
 use Rattle.guess.specs.Programs.{settingIn}
-use Rattle.listing.specs.declared.outcomes.Tally.{Tally}
+use Rattle.records.specs.declared.outcome.Tally.{Tally}
 use Rattle.listing.specs.declared.paused.Paused.{Paused}
-use Rattle.listing.specs.Records.{viewsIn}
-use Rattle.listing.specs.Outcomes.{tallyFrom}
+use Rattle.records.specs.Records.{viewsIn}
+use Rattle.records.specs.Outcomes.{tallyFrom}
 use Rattle.listing.specs.Walks.{walkedIn}
 use Rattle.listing.specs.Pauses.{Ready, Looked, Advanced}
 use Rattle.listing.proofs.Steps.{covered-as, examined-as, none-noted, advanced}

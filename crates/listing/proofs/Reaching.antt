@@ -1,30 +1,30 @@
 -- A paused listing along a list of guesses: how it goes on, and where it stands. Assumes nothing.
 use Prim.Native.Nat.{ℕ, suc, _+_, _*_, _^_, _≤_, _<_}
 use mathlib.Core.Path.{_≡_, refl, sym, ap, _∙_, subst}
-use mathlib.Core.Bool.{true, false, not}
+use mathlib.Core.Bool.{true, false}
 use mathlib.Core.List.{List, [], _∷_}
 use native.Mathlib.Omega.{arith}
 use borrow.Author.Tests.{lt-ltb}
 use lib.Dec.{ltb}
-use lib.ListN.{length, getD, drop, drop-of-length-le}
+use lib.ListN.{length, getD, take, drop}
 use lib.Pow.{pow-mono}
 use lib.Seq.{drop-cons, drop-length}
 use Rattle.sets.specs.Decides.{is-false, dec-self}
-use Rattle.sets.specs.Lists.{null, keep, keep-cons}
-use Rattle.sets.specs.Counting.{keep-shorter}
+use Rattle.sets.specs.Lists.{keep, keep-cons}
 use Rattle.semantics.specs.Definitions.Setting.{k}
 use Rattle.semantics.specs.Definitions.Check.{mostNegations}
 use Rattle.semantics.specs.Definitions.Order.{membersBelow}
 use Rattle.semantics.specs.Definitions.Listing.{tested}
 use Rattle.semantics.specs.Walk.{recordsRoom, Walked, walk}
-use Rattle.semantics.specs.Theorems.Order.{Enumerates, enumerates-long}
+use Rattle.semantics.specs.Theorems.Order.{Enumerates}
 use Rattle.semantics.specs.Theorems.Tally.{AtMost}
 use Rattle.semantics.specs.Theorems.Tests.{StandsAt, stands-end, stands-waiting}
 use Rattle.guess.specs.declared.outline.Outline.{Outline}
 use Rattle.guess.specs.Programs.{settingIn, Outlines}
+use Rattle.records.specs.declared.outcome.Tally.{Tally}
 use Rattle.listing.specs.declared.paused.Paused.{Paused}
-use Rattle.listing.specs.Records.{viewsIn, LargerFirst}
-use Rattle.listing.specs.Outcomes.{tallyFrom}
+use Rattle.records.specs.Records.{viewsIn, LargerFirst}
+use Rattle.records.specs.Outcomes.{tallyFrom}
 use Rattle.listing.specs.Walks.{walkedIn}
 use Rattle.listing.specs.Pauses.{fresh, Ready, Advanced, Along, Stands}
 use Rattle.listing.proofs.Along.{passed, passed-begin, along-first, along-more, along-same, counts-few, views-fewer}
@@ -108,19 +108,6 @@ module _ {x : Outline} {words : List ℕ} (order : List ℕ) (o : Outlines x wor
         (stands-waiting (settingIn x words) (membersBelow j order) enumerates (passed j order (p .at)) (membersBelow j (drop (p .at) order)) (sym (passed-begin j order (p .at))) walked g
         (membersBelow j (drop (suc (p .at)) order)) next spent (ready .uncovered) (ready .free))
 
-  -- with a test for each guess none waits
-  pub none-waits : (p : Paused) (records : List ℕ) → Stands (settingIn x words) order (2 ^ mostNegations) p records → p .waits ≡ false
-  none-waits p records stands =
-      let tests = keep (tested (settingIn x words)) (membersBelow (k (settingIn x words)) order) in
-      let few : length tests ≤ 2 ^ mostNegations = omega (
-        arith,
-        keep-shorter (tested (settingIn x words)) (membersBelow (k (settingIn x words)) order),
-        subst (λ j. length (membersBelow j order) ≡ 2 ^ j) (o .counted) (enumerates-long (x .negations) (membersBelow (x .negations) order) en),
-        ap (λ j. 2 ^ j) (o .counted),
-        pow-mono (o .few-negations),
-      ) in
-      stands .waits-where ∙ ap (λ l. not (null l)) (drop-of-length-le tests few)
-
 -- before the first guess
 pub along-start : (x : Outline) (words order program records : List ℕ) → Along x words order fresh program records
 along-start x words order program records = record {
@@ -128,3 +115,8 @@ along-start x words order program records = record {
   walked = along-first (settingIn x words) (x .negations) order records;
   waiting = λ d. absurd (dec-self false .no refl d);
 }
+
+-- past the last entry
+pub along-end : {x : Outline} {words order program records : List ℕ} {t : Tally} → walkedIn t records ≡ walk (settingIn x words) (membersBelow (x .negations) (take (length order) order))
+    → Along x words order (record { at = length order; tally = t; waits = false; rules = 0 }) program records
+along-end e = record { within = omega arith; walked = e; waiting = λ d. absurd (dec-self false .no refl d) }

@@ -10,12 +10,12 @@ use Rattle.sets.specs.Sets.{_⊂?_}
 use Rattle.semantics.specs.Definitions.Setting.{Setting}
 use Rattle.semantics.specs.Definitions.Listing.{Tally, View, words}
 use Rattle.semantics.specs.Walk.{Outcome, Covered, Ruled, Empty, Other, IsView, countedBy, viewsBy, outcome, advance}
-use Rattle.listing.specs.declared.outcomes.Tally.{Tally as Counts}
-use Rattle.listing.specs.Records.{viewsIn}
+use Rattle.records.specs.declared.outcome.Tally.{Tally as Counts}
+use Rattle.records.specs.Records.{viewsIn}
 use Rattle.semantics.specs.Theorems.Tally.{AtMost}
-use Rattle.listing.specs.Outcomes.{tallyFrom, ExaminedAs}
+use Rattle.records.specs.Outcomes.{tallyFrom, ExaminedAs}
 use Rattle.listing.specs.Walks.{walkedIn}
-use Rattle.listing.proofs.Placed.{placed, views-more}
+use Rattle.records.proofs.Placed.{placed, views-more}
 
 -- no count grows by more than one
 pub one-at-most : (t : Tally) (n : ℕ) (o : Outcome) → AtMost t n → AtMost (countedBy t o) (n + 1)

@@ -1,5 +1,3 @@
--- What the records, the outcomes, the counts and the walk of the code mean.
-pub mod Records
-pub mod Outcomes
+-- What the walk of the code, and its state where it is paused, mean.
 pub mod Walks
 pub mod Pauses

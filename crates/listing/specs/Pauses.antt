@@ -16,8 +16,8 @@ use Rattle.semantics.specs.Theorems.Tests.{StandsAt}
 use Rattle.guess.specs.declared.outline.Outline.{Outline}
 use Rattle.guess.specs.Programs.{unmaskedIn, settingIn}
 use Rattle.listing.specs.declared.paused.Paused.{Paused}
-use Rattle.listing.specs.Records.{viewsIn}
-use Rattle.listing.specs.Outcomes.{tallyFrom}
+use Rattle.records.specs.Records.{viewsIn}
+use Rattle.records.specs.Outcomes.{tallyFrom}
 use Rattle.listing.specs.Walks.{walkedIn}
 
 -- before the first guess

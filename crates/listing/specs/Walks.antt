@@ -6,9 +6,9 @@ use Rattle.semantics.specs.Definitions.Setting.{Setting, k}
 use Rattle.semantics.specs.Definitions.Order.{membersBelow}
 use Rattle.semantics.specs.Definitions.Listing.{Tally, tallyOf, View, viewsAlong}
 use Rattle.semantics.specs.Walk.{Walked}
-use Rattle.listing.specs.declared.outcomes.Tally.{Tally as Counts}
-use Rattle.listing.specs.Records.{viewsIn}
-use Rattle.listing.specs.Outcomes.{tallyFrom}
+use Rattle.records.specs.declared.outcome.Tally.{Tally as Counts}
+use Rattle.records.specs.Records.{viewsIn}
+use Rattle.records.specs.Outcomes.{tallyFrom}
 
 -- what the counts and the records stand for
 abbrev pub walkedIn : Counts → List ℕ → Walked

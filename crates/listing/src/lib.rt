@@ -1,12 +1,12 @@
-// The listing: the walk along a list of guesses, the records of the world views, and the six counts.
-pub mod atoms;
-pub mod outcomes;
+// The listing: the walk along a list of guesses, which writes the records of the world views and makes the six counts.
+mod entries;
 pub mod paused;
-pub mod records;
+mod rest;
+pub mod whole;
 
 use guess::outline::Outline;
-use outcomes::Tally;
-use paused::Paused;
+use records::outcome::Tally;
+use whole::whole;
 ghost use mathlib.Core.Path.{_≡_};
 ghost use Prim.Native.Nat.{_*_, _≤_};
 ghost use lib.ListN.{length};
@@ -14,8 +14,8 @@ ghost use Rattle.semantics.specs.Definitions.Order.{membersBelow};
 ghost use Rattle.semantics.specs.Walk.{recordsRoom};
 ghost use Rattle.semantics.specs.Theorems.Order.{Enumerates};
 ghost use Rattle.guess.specs.Programs.{settingIn, Outlines};
-ghost use Rattle.listing.specs.Records.{viewsIn};
-ghost use Rattle.listing.specs.Outcomes.{tallyFrom};
+ghost use Rattle.records.specs.Records.{viewsIn};
+ghost use Rattle.records.specs.Outcomes.{tallyFrom};
 ghost use Rattle.listing.specs.Walks.{ListingAlong};
 
 // The listing along a list that has every guess, each once, the larger ones first; entries that are no guess are passed over. The six
@@ -28,7 +28,6 @@ pub fn walk(words: &[u16], x: Outline, order: &[u16], records: &mut [u16]) -> Ta
     ensures { λ r. ⌜ ListingAlong (settingIn x (now (words .entry))) (now (order .entry)) (tallyFrom r) (viewsIn (now (records .exit)) (r .views)) ⌝ }
 {
     let mut program = [0u16; 284];
-    let paused = Paused::start();
-    let end = paused.reach(words, x, order, 4096, &mut program[..], &mut records[..]);
+    let end = whole(words, x, order, &mut program[..], &mut records[..]);
     end.tally
 }

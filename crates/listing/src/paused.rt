@@ -1,14 +1,14 @@
 // A listing that can be paused: its state goes in and comes back by value. The records of the views met stand in words lent beside it, and so does
 // the reduct of the guess that waits for its test.
-use super::outcomes::Outcome;
-use super::outcomes::Tally;
-use super::outcomes::count;
-use super::outcomes::judged;
-use super::outcomes::note;
-use super::records::covered_by;
 use guess::outline::Outline;
 use guess::reduct::reduct;
 use propagation::contradicted;
+use records::covered_by;
+use records::outcome::Outcome;
+use records::outcome::Tally;
+use records::outcome::count;
+use records::outcome::judged;
+use records::outcome::note;
 use sets::power;
 ghost use mathlib.Core.Path.{_≡_};
 ghost use mathlib.Core.Bool.{true, false};
@@ -21,8 +21,8 @@ ghost use Rattle.semantics.specs.Walk.{recordsRoom, advance as advanceIn};
 ghost use Rattle.semantics.specs.Theorems.Order.{Enumerates};
 ghost use Rattle.semantics.specs.Theorems.Tally.{AtMost};
 ghost use Rattle.guess.specs.Programs.{settingIn, Outlines};
-ghost use Rattle.listing.specs.Records.{viewsIn, LargerFirst};
-ghost use Rattle.listing.specs.Outcomes.{tallyFrom};
+ghost use Rattle.records.specs.Records.{viewsIn, LargerFirst};
+ghost use Rattle.records.specs.Outcomes.{tallyFrom};
 ghost use Rattle.listing.specs.Walks.{walkedIn};
 ghost use Rattle.listing.specs.Pauses.{fresh, Ready, Looked, Advanced, Along, Stands};
 

@@ -18,7 +18,7 @@ use Rattle.allowance.specs.SheetBySheet.{each-granted, each-denied}
 use Rattle.allowance.specs.Shares.{shares-long, share-at, share-tests}
 use Rattle.source.specs.declared.Source.{Source}
 use Rattle.listing.specs.declared.paused.Paused.{Paused}
-use Rattle.listing.specs.Records.{viewsIn, viewsIn-long}
+use Rattle.records.specs.Records.{viewsIn, viewsIn-long}
 use Rattle.listing.specs.Pauses.{fresh}
 use Rattle.sharing.specs.Held.{settingAt, settingsIn, Served, spentIn, Idle}
 use Rattle.sharing.specs.declared.sheets.Refusal.the-variants.{At}

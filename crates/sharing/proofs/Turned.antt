@@ -1,5 +1,5 @@
 -- A turn of a sheet. Assumes nothing.
-use Prim.Native.Nat.{ℕ, zero, suc, _+_, _≤_, _<_}
+use Prim.Native.Nat.{ℕ, zero, suc, _+_, _^_, _≤_, _<_}
 use mathlib.Core.Path.{_≡_, sym, ap, _∙_, subst}
 use mathlib.Core.List.{List, [], _∷_}
 use native.Mathlib.Nat.{not-suc-le-zero, le-of-suc-le-suc}
@@ -7,17 +7,19 @@ use native.Mathlib.Omega.{arith}
 use lib.ListN.{length, getD, set, length-set}
 use lib.Seq.{getD-set-same, getD-set-other}
 use Rattle.semantics.specs.Definitions.Setting.{k}
+use Rattle.semantics.specs.Definitions.Check.{mostNegations}
 use Rattle.semantics.specs.Definitions.Order.{order as orderOf}
 use Rattle.semantics.specs.Definitions.Sharing.{testsOf, metIn, finishedIn, inAll}
 use Rattle.semantics.specs.Theorems.Tests.{StandsAt}
 use Rattle.order.specs.Table.{tableWidth}
-use Rattle.order.specs.Ordered.{table-members}
+use Rattle.order.specs.Ordered.{table-members, table-enumerates}
 use Rattle.guess.specs.declared.outline.Outline.{Outline}
 use Rattle.guess.specs.Programs.{settingIn, Outlines}
 use Rattle.source.specs.declared.Source.{Source}
 use Rattle.listing.specs.declared.paused.Paused.{Paused}
-use Rattle.listing.specs.Records.{viewsIn}
-use Rattle.listing.specs.Pauses.{fresh, Stands}
+use Rattle.records.specs.Records.{viewsIn}
+use Rattle.listing.specs.Pauses.{fresh, Along, Stands}
+use Rattle.listing.proofs.Reaching.{few-counts, at-end}
 use Rattle.sharing.specs.Held.{unread, settingAt, Goes, Has, spentIn, Turned}
 
 -- where a listing stands in the built-in order is what its sheet has
@@ -34,6 +36,14 @@ has-of {x} {words} o l is t p records stands =
       views-are = h .met-are;
       waits-where = h .waits-where;
     }
+
+-- past the last entry it has all its tests
+pub has-end : {x : Outline} {words : List ℕ} → Outlines x words → (l : List ℕ) → l ≡ orderOf tableWidth → (p : Paused) (program records : List ℕ) → Along x words l p program records
+    → p .at ≡ length l → Has (settingIn x words) (2 ^ mostNegations) p records
+has-end o l is p program records along end =
+    let en = table-enumerates is (o .few-negations) in
+    let few : p .tally .tested ≤ 2 ^ mostNegations = omega (arith, few-counts l o en along) in
+    has-of o l is (2 ^ mostNegations) p records (at-end l o en (2 ^ mostNegations) along end few)
 
 -- all tests, once one sheet has others
 pub spent-set : (l : List Paused) (p : ℕ) (y : Paused) → p < length l → spentIn (set l p y) + getD l p fresh .tally .tested ≡ spentIn l + y .tally .tested

@@ -8,7 +8,7 @@ use Rattle.semantics.specs.Definitions.Returned.{written}
 use Rattle.semantics.specs.Definitions.Listing.{words}
 use Rattle.semantics.specs.Definitions.Sharing.{Numbers, Carried}
 use Rattle.listing.specs.declared.paused.Paused.{Paused}
-use Rattle.listing.specs.Records.{viewsIn}
+use Rattle.records.specs.Records.{viewsIn}
 use Rattle.listing.specs.Pauses.{fresh}
 use Rattle.sharing.specs.Held.{spentIn}
 

@@ -15,7 +15,7 @@ use Rattle.source.specs.declared.Source.{Source}
 use Rattle.source.specs.declared.Source.the-variants.{Accepted, Refused}
 use Rattle.source.specs.Sources.{Reads}
 use Rattle.listing.specs.declared.paused.Paused.{Paused}
-use Rattle.listing.specs.Records.{viewsIn}
+use Rattle.records.specs.Records.{viewsIn}
 use Rattle.listing.specs.Pauses.{fresh, Along}
 
 -- ---- a sheet

@@ -1,7 +1,7 @@
 // The words lent for the records of a shared call, and the records in them.
 use super::sheets::Refusal;
 use listing::paused::Paused;
-use listing::records::write_records;
+use records::write_records;
 ghost use mathlib.Core.Path.{_≡_};
 ghost use mathlib.Core.Bool.{cond};
 ghost use Prim.Native.Nat.{ℕ, _*_, _<_, _≤_};
@@ -9,7 +9,7 @@ ghost use lib.Dec.{ltb};
 ghost use lib.ListN.{length, getD};
 ghost use Rattle.semantics.specs.Definitions.Returned.{written};
 ghost use Rattle.semantics.specs.Definitions.Listing.{words};
-ghost use Rattle.listing.specs.Records.{viewsIn};
+ghost use Rattle.records.specs.Records.{viewsIn};
 ghost use Rattle.listing.specs.Pauses.{fresh};
 ghost use Rattle.sharing.specs.Refusals.{FirstShort};
 

@@ -1,5 +1,6 @@
 // The turns of the sheets, round by round.
 use listing::paused::Paused;
+use listing::whole::whole;
 use source::Source;
 ghost use mathlib.Core.Path.{_≡_};
 ghost use mathlib.Core.Bool.{true, false};
@@ -83,6 +84,26 @@ fn round(
     all
 }
 
+// A sheet goes from its first guess to its last: where the first test leaves more, all guesses are judged at once.
+fn to_end(
+    source: Source,
+    order: &[u16],
+    words: &[u16],
+    program: &mut [u16],
+    records: &mut [u16],
+) -> Paused
+    requires { ⌜ (now order ≡ orderOf tableWidth) × (4 * programRoom ≤ length (now program)) × (4 * recordsRoom ≤ length (now records)) × IsRead source (now words) ⌝ }
+    ensures { λ r. ⌜ length (now (program .exit)) ≡ length (now (program .entry)) ⌝ }
+    ensures { λ r. ⌜ length (now (records .exit)) ≡ length (now (records .entry)) ⌝ }
+    ensures { λ r. ⌜ Goes source (now (words .entry)) (now (order .entry)) r (now (program .exit)) (now (records .exit)) ⌝ }
+    ensures { λ r. ⌜ Has (settingFrom source (now (words .entry))) (2 ^ mostNegations) r (now (records .exit)) ⌝ }
+{
+    match source {
+        Source::Accepted(x) => whole(words, x, order, &mut program[..], &mut records[..]),
+        Source::Refused(_, _) => Paused::start(),
+    }
+}
+
 // The first n sheets, none of which has begun, each to its end.
 fn to_the_end(
     n: usize,
@@ -102,18 +123,15 @@ fn to_the_end(
     let mut all = states;
     let mut p = 0;
     while p < n {
-        let before = all[p];
         let source = sources[p];
-        let after = turn(
-            4096,
+        let end = to_end(
             source,
             order,
             &words[p][..],
-            before,
             &mut programs[p][..],
             &mut records[p][..],
         );
-        all[p] = after;
+        all[p] = end;
         p += 1;
     }
     all

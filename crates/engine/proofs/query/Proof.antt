@@ -4,7 +4,7 @@ use native.Mathlib.Omega.{arith}
 use Rattle.semantics.specs.Definitions.Day.{ofDay}
 use Rattle.semantics.specs.Definitions.Returned.{accepted}
 use Rattle.semantics.specs.Definitions.Calls.{forAtom}
-use Rattle.listing.specs.Records.{viewsIn}
+use Rattle.records.specs.Records.{viewsIn}
 use Rattle.source.specs.Sources.{Reads}
 use Rattle.source.proofs.Read.{outlined}
 use Rattle.engine.specs.declared.Queried.the-variants.{None, Refused}

@@ -6,7 +6,7 @@ use Prim.Native.Nat.{ℕ}
 use lib.ListN.{length}
 use Rattle.semantics.specs.Definitions.Returned.{refusal}
 use Rattle.semantics.specs.Definitions.Calls.{listCall, recordsOf}
-use Rattle.listing.specs.Records.{viewsIn-long}
+use Rattle.records.specs.Records.{viewsIn-long}
 use Rattle.guess.specs.declared.outline.Outline.{Outline}
 use Rattle.guess.specs.Programs.{Outlines}
 use Rattle.source.specs.declared.Source.{Source}

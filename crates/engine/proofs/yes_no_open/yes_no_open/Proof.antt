@@ -1,7 +1,7 @@
 -- `engine::yes_no_open::yes_no_open` meets its contract. Assumes nothing.
 use mathlib.Core.Path.{sym, ap, _∙_}
 use Rattle.semantics.specs.Definitions.Returned.{accepted}
-use Rattle.listing.specs.Records.{viewsIn}
+use Rattle.records.specs.Records.{viewsIn}
 use Rattle.engine.proofs.Answered.{answers-yes, answers-no, answers-open}
 use borrow.Author.Needs.{needs}
 use Rattle.engine.proofs.yes_no_open.yes_no_open.Statement.{statement}

@@ -5,7 +5,7 @@ use borrow.Author.Needs.{needs}
 use borrow.Author.Tests.{lt-ltb, le-ltb}
 use Rattle.semantics.specs.Definitions.Returned.{written}
 use Rattle.semantics.specs.Definitions.Listing.{words}
-use Rattle.listing.specs.Records.{viewsIn}
+use Rattle.records.specs.Records.{viewsIn}
 use Rattle.sharing.proofs.rooms.hand.Statement.{statement}
 use Rattle.sharing.proofs.rooms.hand.Tie as tie
 

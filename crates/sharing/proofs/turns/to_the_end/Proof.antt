@@ -1,6 +1,6 @@
 -- `sharing::turns::to_the_end` meets its contract. Assumes nothing.
 use Prim.Native.Nat.{_-_, _^_, _≤_, _<_}
-use mathlib.Core.Path.{_≡_, refl, ap, _∙_}
+use mathlib.Core.Path.{_≡_, refl, _∙_}
 use native.Mathlib.Omega.{arith}
 use lib.ListN.{length, length-set}
 use Rattle.semantics.specs.Definitions.Check.{mostNegations}
@@ -31,68 +31,61 @@ loop-holds c =
           (go-first (a .t2) (a .words .now) (a .order .now) (a .n) (a .states) (λ q. start .pre .1 .1 q (omega arith)) (a .programs .now) (a .records .now) (start .pre .1 .0)),
     )
 
-mul-before : tie.Need-mul-before Inv-loop μ-loop
-mul-before c = search needs
-
-array-copy-out-before : tie.Need-array-copy-out-before Inv-loop μ-loop
-array-copy-out-before c = omega (arith, c .loop-test .taken, c .before .before .before .pre .0 .0)
-
 mul-source : tie.Need-mul-source Inv-loop μ-loop
 mul-source c = search needs
 
 array-copy-out-source : tie.Need-array-copy-out-source Inv-loop μ-loop
-array-copy-out-source c = omega (arith, c .before .loop-test .taken, c .before .before .before .before .pre .0 .0)
+array-copy-out-source c = omega (arith, c .loop-test .taken, c .before .before .before .pre .0 .0)
 
-mul-turn : tie.Need-mul-turn Inv-loop μ-loop
-mul-turn c = search needs
+mul-to-end : tie.Need-mul-to-end Inv-loop μ-loop
+mul-to-end c = search needs
 
-index-1-turn : tie.Need-index-1-turn Inv-loop μ-loop
-index-1-turn c = omega (arith, c .before .before .loop-test .taken, c .before .before .before .before .before .pre .0 .0, c .before .before .before .before .before .pre .0 .2)
+index-1-to-end : tie.Need-index-1-to-end Inv-loop μ-loop
+index-1-to-end c = omega (arith, c .before .loop-test .taken, c .before .before .before .before .pre .0 .0, c .before .before .before .before .pre .0 .2)
 
-mul-turn-2 : tie.Need-mul-turn-2 Inv-loop μ-loop
-mul-turn-2 c = search needs
+mul-to-end-2 : tie.Need-mul-to-end-2 Inv-loop μ-loop
+mul-to-end-2 c = search needs
 
-index-1-turn-2 : tie.Need-index-1-turn-2 Inv-loop μ-loop
-index-1-turn-2 c = omega (arith, c .before .before .before .before .loop-test .taken, c .before .before .before .before .before .before .before .pre .0 .0, c .before .before .before .before .before .before .before .pre .0 .4, c .before .before .before .before .before .loop .inv .1)
+index-1-to-end-2 : tie.Need-index-1-to-end-2 Inv-loop μ-loop
+index-1-to-end-2 c = omega (arith, c .before .before .before .loop-test .taken, c .before .before .before .before .before .before .pre .0 .0, c .before .before .before .before .before .before .pre .0 .4, c .before .before .before .before .loop .inv .1)
 
-mul-turn-3 : tie.Need-mul-turn-3 Inv-loop μ-loop
-mul-turn-3 c = search needs
+mul-to-end-3 : tie.Need-mul-to-end-3 Inv-loop μ-loop
+mul-to-end-3 c = search needs
 
-index-1-turn-3 : tie.Need-index-1-turn-3 Inv-loop μ-loop
-index-1-turn-3 c = omega (arith, c .before .before .before .before .before .loop-test .taken, c .before .before .before .before .before .before .before .before .pre .0 .0, c .before .before .before .before .before .before .before .before .pre .0 .5, c .before .before .before .before .before .before .loop .inv .2)
+index-1-to-end-3 : tie.Need-index-1-to-end-3 Inv-loop μ-loop
+index-1-to-end-3 c = omega (arith, c .before .before .before .before .loop-test .taken, c .before .before .before .before .before .before .before .pre .0 .0, c .before .before .before .before .before .before .before .pre .0 .5, c .before .before .before .before .before .loop .inv .2)
 
-turn-requires : tie.Need-turn-requires Inv-loop μ-loop
-turn-requires c κs =
-    let l = c .before .before .before .before .before .before .before .loop in
-    let start = c .before .before .before .before .before .before .before .before .before in
+to-end-requires : tie.Need-to-end-requires Inv-loop μ-loop
+to-end-requires c κs =
+    let l = c .before .before .before .before .before .before .loop in
+    let start = c .before .before .before .before .before .before .before .before in
     let a = start .args in
-    let told : l .p < a .n = omega (arith, c .before .before .before .before .before .before .loop-test .taken) in
-    let none = ap (λ z. z .tally .tested) (l .inv .4 .others (l .p) (omega arith) ∙ start .pre .1 .1 (l .p) (omega arith)) in
-    ((start .pre .0 .6, search needs, search needs), (start .pre .1 .0 (l .p) told, l .inv .4 .go (l .p) told, omega (arith, none)))
+    let told : l .p < a .n = omega (arith, c .before .before .before .before .before .loop-test .taken) in
+    (start .pre .0 .6, search needs, search needs, start .pre .1 .0 (l .p) told)
 
 mul-all : tie.Need-mul-all Inv-loop μ-loop
 mul-all c = search needs
 
 array-set-from-all : tie.Need-array-set-from-all Inv-loop μ-loop
-array-set-from-all c = omega (arith, c .before .before .before .before .before .before .before .loop-test .taken, c .before .before .before .before .before .before .before .before .before .before .pre .0 .0)
+array-set-from-all c = omega (arith, c .before .before .before .before .before .before .loop-test .taken, c .before .before .before .before .before .before .before .before .before .pre .0 .0)
 
 add-p : tie.Need-add-p Inv-loop μ-loop
-add-p c = omega (arith, c .before .before .before .before .before .before .before .loop-test .taken, c .before .before .before .before .before .before .before .before .before .before .pre .0 .0)
+add-p c = omega (arith, c .before .before .before .before .before .before .loop-test .taken, c .before .before .before .before .before .before .before .before .before .pre .0 .0)
 
 loop-less : tie.Need-loop-less Inv-loop μ-loop
-loop-less c = omega (arith, c .before .before .before .before .before .before .before .loop-test .taken)
+loop-less c = omega (arith, c .before .before .before .before .before .before .loop-test .taken)
 
 loop-again : tie.Need-loop-again Inv-loop μ-loop
 loop-again c =
-    let l = c .before .before .before .before .before .before .before .before .loop in
-    let start = c .before .before .before .before .before .before .before .before .before .before in
+    let l = c .before .before .before .before .before .before .before .loop in
+    let start = c .before .before .before .before .before .before .before .before .before in
     let a = start .args in
-    let turn = c .turn in
-    let told : l .p < 4 = omega (arith, c .before .before .before .before .before .before .before .loop-test .taken, start .pre .0 .0) in
+    let end = c .to-end in
+    let told : l .p < 4 = omega (arith, c .before .before .before .before .before .before .loop-test .taken, start .pre .0 .0) in
     let d = turned (a .t2) (a .words .now) (a .order .now) (l .p) (2 ^ mostNegations) (l .all) (l .programs) (l .records) (omega (arith, told, l .inv .3, start .pre .0 .3))
-    (omega (arith, told, l .inv .1, start .pre .0 .4)) (omega (arith, told, l .inv .2, start .pre .0 .5)) (turn .result) (turn .last .1 .1 .1 .1 .1 .0) (turn .last .1 .1 .1 .1 .1 .1 .0)
-    (turn .ensures .1 .1 .0) (turn .ensures .1 .1 .1) in (
-      omega (arith, c .before .before .before .before .before .before .before .loop-test .taken),
+    (omega (arith, told, l .inv .1, start .pre .0 .4)) (omega (arith, told, l .inv .2, start .pre .0 .5)) (end .result) (end .last .1 .1 .1 .0) (end .last .1 .1 .1 .1 .0)
+    (end .ensures .1 .1 .0) (end .ensures .1 .1 .1) in (
+      omega (arith, c .before .before .before .before .before .before .loop-test .taken),
       length-set (l .programs) (l .p) _ ∙ l .inv .1,
       length-set (l .records) (l .p) _ ∙ l .inv .2,
       d .long ∙ l .inv .3,
@@ -113,17 +106,15 @@ to-the-end-spec =
     Inv-loop
     μ-loop
     loop-holds
-    mul-before
-    array-copy-out-before
     mul-source
     array-copy-out-source
-    mul-turn
-    index-1-turn
-    mul-turn-2
-    index-1-turn-2
-    mul-turn-3
-    index-1-turn-3
-    turn-requires
+    mul-to-end
+    index-1-to-end
+    mul-to-end-2
+    index-1-to-end-2
+    mul-to-end-3
+    index-1-to-end-3
+    to-end-requires
     mul-all
     array-set-from-all
     add-p

@@ -13,7 +13,7 @@ use Rattle.semantics.specs.Walk.{advance}
 use Rattle.semantics.specs.Theorems.Tally.{AtMost}
 use Rattle.guess.specs.Programs.{settingIn}
 use Rattle.listing.specs.declared.paused.Paused.{Paused}
-use Rattle.listing.specs.Outcomes.{tallyFrom}
+use Rattle.records.specs.Outcomes.{tallyFrom}
 use Rattle.listing.specs.Walks.{walkedIn}
 use Rattle.listing.proofs.Pausing.{Seen, covers, seen-now, seen-before, seen-as, stays, tests, passes, further}
 use borrow.Author.Needs.{needs}

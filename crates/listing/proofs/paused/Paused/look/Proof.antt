@@ -2,9 +2,8 @@
 use mathlib.Core.Path.{refl, sym, _∙_}
 use mathlib.Core.Bool.{true}
 use Rattle.sets.specs.Decides.{dec-self}
-use Rattle.guess.specs.Numbered.{few-of}
+use Rattle.guess.specs.Numbered.{few-of, guess-below}
 use Rattle.guess.specs.Settings.{contradicted-by}
-use Rattle.listing.proofs.Examined.{guess-below}
 use borrow.Author.Needs.{needs}
 use Rattle.listing.proofs.paused.Paused.look.Statement.{statement}
 use Rattle.listing.proofs.paused.Paused.look.Tie as tie

@@ -10,8 +10,8 @@ use Rattle.semantics.specs.Walk.{viewsBy}
 use Rattle.guess.specs.Programs.{settingIn}
 use Rattle.guess.specs.Numbered.{few-of}
 use Rattle.guess.specs.Settings.{settingBy}
-use Rattle.listing.specs.Outcomes.{outcomeFrom, tallyFrom}
-use Rattle.listing.proofs.Placed.{part-written, placed-long}
+use Rattle.records.specs.Outcomes.{outcomeFrom, tallyFrom}
+use Rattle.records.proofs.Placed.{part-written, placed-long}
 use Rattle.listing.proofs.Steps.{words-few, advanced}
 use Rattle.listing.proofs.Examined.{tested-as, one-test}
 use borrow.Author.Needs.{needs}
