@@ -2,7 +2,7 @@
 //!
 //! The listing is written and proved in Rattle, and linked as an archive: every answer is the one that the contract of
 //! its call states. This crate only lends the memory and names the parts of the answer. The words and the bytes of a
-//! sheet are explained in the repository's README. A call takes some 76 KB of the stack.
+//! sheet are explained in the repository's README. A call takes some 110 KB of the stack.
 //!
 //! ```
 //! // Atoms a and b; a if it is not known that b, b if it is not known that a.

@@ -1,9 +1,10 @@
-//! The proved listing and the second solver on named sheets, some under day masks: the time of each, their ratio, and
-//! that both give the same listing. Then four sheets on one allowance that is large enough, and their four lists one
+//! The proved listing and the second solver on named sheets, some hard, some under day masks: the time of each, their
+//! ratio, and that both give the same listing. Then four sheets on one allowance that is large enough, and their four lists one
 //! after the other, both by the program `calls`.
 
 use budkarv::{Atoms, Day};
 use trial::cases::sheets::put;
+use trial::hard::{hard, quick};
 use trial::large::{fours, masked, named};
 use trial::request::{Request, LIST, SHARE};
 use trial::sharing::Sharing;
@@ -17,11 +18,11 @@ fn main() {
 
 fn listings() {
     println!(
-        "{:<27}{:>6}{:>7}{:>4}{:>7}{:>13}{:>13}{:>9}",
-        "sheet", "atoms", "rules", "k", "views", "proved ms", "second ms", "ratio"
+        "{:<27}{:>6}{:>7}{:>4}{:>8}{:>7}{:>13}{:>13}{:>9}",
+        "sheet", "atoms", "rules", "k", "tested", "views", "proved ms", "second ms", "ratio"
     );
     let without_masks = named().into_iter().map(|(name, sheet)| (name, sheet, [0, 0]));
-    for (name, sheet, masks) in without_masks.chain(masked()) {
+    for (name, sheet, masks) in without_masks.chain(masked()).chain(hard()).chain(quick()) {
         let [in_atoms, out_atoms] = masks.map(Atoms::from_bits);
         let (ours, proved) = timed(|| budkarv::list_on(&sheet, Day { in_atoms, out_atoms }).expect("accepted"));
         let (theirs, second) = timed(|| open_under(&sheet, masks).expect("accepted").listing().clone());
@@ -33,8 +34,10 @@ fn listings() {
         assert_eq!((counts, &words), (theirs.counts, &expected), "{name}: the two give different listings");
         let [atoms, rules, negations] = open(&sheet).expect("accepted").check();
         let (proved, second) = (milliseconds(proved), milliseconds(second));
-        let (views, ratio) = (words.len(), proved / second);
-        println!("{name:<27}{atoms:>6}{rules:>7}{negations:>4}{views:>7}{proved:>13.3}{second:>13.3}{ratio:>9.4}");
+        let (tested, views, ratio) = (c.tested, words.len(), proved / second);
+        println!(
+            "{name:<27}{atoms:>6}{rules:>7}{negations:>4}{tested:>8}{views:>7}{proved:>13.3}{second:>13.3}{ratio:>9.4}"
+        );
     }
     println!("on every sheet both give the same counts and world views; ratio: proved / second");
 }
