@@ -41,7 +41,7 @@ at-stays a b n e = map-upTo-same (ruleAt a) (ruleAt b) n (λ j h.
     word : (i : ℕ) → i < 4 * n → getD a i 0 ≡ getD b i 0
     word i l = word-stays (4 * n) a b e i l
 
--- three sets without a member
+-- a union without a member: neither set has one
 no-member : (a b : ℕ) → a ∪ b ≡ 0 → (a ≡ ∅) × (b ≡ ∅)
 no-member a b e = (omega (arith, e, ⊆-le (⊆-∪-left a b)), omega (arith, e, ⊆-le (⊆-∪-right a b)))
 

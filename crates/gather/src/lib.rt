@@ -56,7 +56,7 @@ fn at_set(r: Digest, i: u16, needed: u16) -> AtSet
     }
 }
 
-// The atom that it supports, where it does: its only head atom in the set, not among its plain atoms.
+// A set that has the atom it supports, where it does: its only head atom in the set, not among its plain atoms.
 fn supported(e: AtSet) -> u16
     ensures { λ r. ⌜ ((a : ℕ) → Supports (ruleFrom e) a → a ∈ r) ⌝ }
 {
@@ -81,7 +81,7 @@ fn put(e: AtSet, n: usize, room: &mut [u16])
 }
 
 // The rules that a guess can switch on at the set i, which needs these negations. Where one that every guess switches on has no head atom in the
-// set, or none of them supports an atom of the set, no guess makes it stable.
+// set, or an atom of the set is supported by none of them, no guess makes it stable.
 pub fn gather(
     words: &[u16],
     x: Outline,

@@ -6,15 +6,17 @@ use native.Mathlib.Omega.{arith}
 use lib.ListN.{length}
 use lib.Pow.{pow-mono}
 use Rattle.sets.specs.Lists.{only, flat, upTo}
-use Rattle.sets.specs.Sets.{_∈?_}
+use Rattle.sets.specs.Sets.{_∈?_, setOf}
 use Rattle.semantics.specs.Definitions.Rules.{K, notK, M, notM}
-use Rattle.semantics.specs.Definitions.Guesses.{not-known, may-be, mentioned}
+use Rattle.semantics.specs.Definitions.Guesses.{not-known, may-be, mentioned, numbered}
 use Rattle.semantics.specs.Definitions.Sheet.{ruleOfMasks, mostAtoms}
+use Rattle.semantics.specs.Definitions.Setting.{k, negation}
+use Rattle.semantics.specs.Definitions.Verdict.{foundHas}
 use Rattle.semantics.specs.Words.{rulesIn}
 use Rattle.semantics.specs.Theorems.Subjects.{mentioned-in}
 use Rattle.guess.specs.declared.outline.Outline.{Outline}
-use Rattle.guess.specs.Programs.{settingIn, Outlines}
-use Rattle.guess.specs.Negations.{negationsIn, negationsBy, Few}
+use Rattle.guess.specs.Programs.{unmaskedIn, settingIn, Outlines}
+use Rattle.guess.specs.Negations.{negationsIn, negationsBy, Few, foundBy}
 
 module _ {x : Outline} {words : List ℕ} (o : Outlines x words) where
   pub negations-by : negationsBy x ≡ settingIn x words .negations
@@ -37,3 +39,8 @@ module _ {x : Outline} {words : List ℕ} (o : Outlines x words) where
   -- a guess is below 2 to the number of them
   pub guess-below : {g : ℕ} → g < 2 ^ x .negations → g < 2 ^ length (negationsBy x)
   guess-below {g} h = subst (λ n. g < 2 ^ n) (o .counted ∙ sym (ap length negations-by)) h
+
+  -- the guess found is that of the setting
+  pub found-is : (known possible : ℕ)
+      → foundBy x known possible ≡ setOf (λ j. foundHas known possible (negation (unmaskedIn x words) j)) (k (unmaskedIn x words))
+  found-is known possible = ap (λ es. setOf (λ j. foundHas known possible (numbered es j)) (length es)) negations-by

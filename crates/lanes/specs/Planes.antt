@@ -16,7 +16,7 @@ infix 45 _in-plane_
 pub record _in-plane_ (g : ℕ) (l : List ℕ) : Type 0 where
   pub held : g % 64 ∈ getD l (g / 64) 0
 
--- g is in the plane l exactly when P g
+-- of the numbers of its words, g is in the plane l exactly when P g
 pub record Plane (P : ℕ → Type 0) (l : List ℕ) : Type 0 where
   pub number : {g : ℕ} → g < 64 * length l → g in-plane l ↔ P g
 

@@ -71,13 +71,13 @@ module _ {x : Outline} {words free active table : List ℕ} (o : Outlines x word
         let lacks = dec-some (λ i. not (need (unmaskedIn x words) i ⊆? g)) (λ i. need (unmaskedIn x words) i ⊆ g → ⊥) w (λ i _. dec-not (dec-⊆ (need (unmaskedIn x words) i) g)) in
         examined (⊎-elim
         (λ p. sym (lacks-other-added (dayConstraints (x .ins) (x .outs)) (unmaskedIn x words) g (p .0) (p .1) (p .2)))
-        (λ q. absurd (n (t .needs within f .1 (λ i m. ⊎-elim (λ y. y) (λ y. absurd (q (i, m, y))) (decided (dec-⊆ (need (unmaskedIn x words) i) g))))))
+        (λ q. absurd (n (t .filled .needs within f .1 (λ i m. ⊎-elim (λ y. y) (λ y. absurd (q (i, m, y))) (decided (dec-⊆ (need (unmaskedIn x words) i) g))))))
         (decided lacks))
 
     -- by its entry
     pub examined-entry : g in-plane active → {a : Outcome} → a ≡ byEntry x g (getD table (3 * g) 0) (getD table (3 * g + 1) 0) (getD table (3 * g + 2) 0) → ExaminedAs s g a
     examined-entry m e =
-        examined (e ∙ ap (λ (y : Entry). judgedAs g (verdictFrom (negationsBy x) (having (y .known) (y .possible) (y .number) 0) g)) (t .entries within m)
+        examined (e ∙ ap (λ (y : Entry). judgedAs g (verdictFrom (negationsBy x) (having (y .known) (y .possible) (y .number) 0) g)) (t .filled .entries within m)
         ∙ ap (λ ns. judgedAs g (verdictFrom ns (having (⋂ (x .atoms) w) (⋃ w) (length w) 0) g)) (negations-by o) ∙ sym (judged-by-summary s g 0))
       where
         w : List ℕ

@@ -1,4 +1,4 @@
-// A whole listing: the first tests guess by guess, and where more are left, the verdicts on all guesses at once.
+// A whole listing: the first test by itself, and where more are left, the verdicts on all guesses at once.
 use super::paused::Paused;
 use super::rest::rest;
 use guess::outline::Outline;
@@ -18,7 +18,7 @@ ghost use Rattle.guess.specs.Programs.{settingIn, Outlines};
 ghost use Rattle.listing.specs.Walks.{walkedIn};
 ghost use Rattle.listing.specs.Pauses.{Along};
 
-// How many words of 64 have a lane for each guess.
+// As many words, at most 64, as have a lane for each guess.
 fn plane_words(negations: usize) -> usize
     requires { ⌜ negations ≤ mostNegations ⌝ }
     ensures { λ r. ⌜ (r ≤ 64) × (2 ^ negations ≤ 64 * r) ⌝ }

@@ -62,7 +62,8 @@ pub record SwitchedOn (e : GatheredRule) (g : ℕ) : Type 0 where
   pub apart : Meets (e .misses) g → ⊥
   pub within : e .holds ⊆ g
 
--- i is a model of the gathered rules that g switches on, and no proper subset is
+-- i is a model of the gathered rules that g switches on, and no proper subset is. (Their bodies hold in i, and their heads are cut to i: in i such a rule
+-- fails where its head is empty.)
 pub record StableBy (es : List GatheredRule) (i g : ℕ) : Type 0 where
   pub model : (e : GatheredRule) → e among es → e .head ≡ ∅ → SwitchedOn e g → ⊥
   pub minimal : (j : ℕ) → j ⊂ i → ((e : GatheredRule) → e among es → SwitchedOn e g → e .plain ⊆ j → Meets (e .head) j) → ⊥

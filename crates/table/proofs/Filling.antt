@@ -113,6 +113,9 @@ tabled {first = first} wide same long stand all begun filled = record {
   long = long ∙ same;
   stand = stand;
   free-are = all;
-  needs = λ {g} h m. filled .needs {g = g} (omega arith) (begun .number {g = g} (omega arith) .1 (all .number h .0 m));
-  entries = λ {g} h m. filled .entries {g = g} (omega arith) m;
+  filled = record {
+    within = λ {g} h m. all .number h .1 (begun .number {g = g} (omega arith) .0 (filled .within {g = g} (omega arith) m));
+    needs = λ {g} h m. filled .needs {g = g} (omega arith) (begun .number {g = g} (omega arith) .1 (all .number h .0 m));
+    entries = λ {g} h m. filled .entries {g = g} (omega arith) m;
+  };
 }

@@ -1,24 +1,21 @@
 -- The rules at a set as the lanes read them, in words: they say for which guesses the set is stable. Assumes nothing.
 use Prim.Native.Nat.{ℕ, _^_, _≤_, _<_}
-use mathlib.Core.Path.{_≡_, refl, sym, ap, _∙_, subst}
+use mathlib.Core.Path.{_≡_, refl, sym, _∙_, subst}
 use mathlib.Core.List.{List, map}
 use mathlib.Core.Logic.{_↔_, ⊎-elim}
-use lib.ListN.{length}
 use Rattle.sets.specs.Decides.{decided}
 use Rattle.sets.specs.Lists.{_among_, upTo, among-map, among-upTo}
-use Rattle.sets.specs.Sets.{_⊆_, Meets, setOf}
+use Rattle.sets.specs.Sets.{_⊆_, Meets}
 use Rattle.sets.specs.Members.{dec-meets, getD-below}
 use Rattle.semantics.specs.Definitions.Rules.{EpistemicRule, Subjective, maskNumber}
 use Rattle.semantics.specs.Definitions.Sheet.{ruleOfMasks}
-use Rattle.semantics.specs.Definitions.Guesses.{numbered}
-use Rattle.semantics.specs.Definitions.Verdict.{foundHas}
 use Rattle.semantics.specs.Words.{rulesIn}
 use Rattle.semantics.specs.AtSet.{need, GatheredRule, StableBy}
 use Rattle.semantics.specs.Theorems.Need.{need-by-set}
 use Rattle.guess.specs.declared.outline.Outline.{Outline}
 use Rattle.guess.specs.Programs.{unmaskedIn, Outlines}
 use Rattle.guess.specs.Negations.{foundBy}
-use Rattle.guess.specs.Numbered.{negations-by}
+use Rattle.guess.specs.Numbered.{found-is}
 use Rattle.lanes.specs.Cube.{InCube}
 use Rattle.lanes.specs.Stable.{StableFor}
 use Rattle.gather.specs.declared.Gathered.{Gathered}
@@ -27,7 +24,7 @@ use Rattle.gather.specs.Gathers.{ruleAt, rulesAt, atSet, GatheredAt}
 
 -- ---- what the set needs, as the code finds it
 pub need-is : {x : Outline} {words : List ℕ} → Outlines x words → (i : ℕ) → i < 2 ^ x .atoms → foundBy x i i ≡ need (unmaskedIn x words) i
-need-is {x} {words} o i h = ap (λ es. setOf (λ j. foundHas i i (numbered es j)) (length es)) (negations-by o) ∙ sym (need-by-set (unmaskedIn x words) i h)
+need-is {x} {words} o i h = found-is o i i ∙ sym (need-by-set (unmaskedIn x words) i h)
 
 -- ---- the masks of the rules are sets of its atoms
 pub masks-below : {x : Outline} {words : List ℕ} → Outlines x words → (r : EpistemicRule) → r among map ruleOfMasks (rulesIn words (x .rules)) → (m : Subjective) → r .mask m < 2 ^ x .atoms

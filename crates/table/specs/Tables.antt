@@ -34,11 +34,10 @@ module _ (x : Outline) (words : List ℕ) where
     pub needs : {g : ℕ} → g < 64 * length first → g in-plane first → g in-plane active ↔ ((i : ℕ) → i among beliefSets (settingIn x words) g → need (unmaskedIn x words) i ⊆ g)
     pub entries : {g : ℕ} → g < 64 * length first → g in-plane active → entryAt table g ≡ summary (x .atoms) (beliefSets (settingIn x words) g)
 
-  -- the three together
+  -- the plane of the guesses that are not contradicted, one lane for each guess at least, and the table filled for them
   pub record Tabled (free active table : List ℕ) : Type 0 where
     pub wide : 2 ^ x .negations ≤ 64 * length free
     pub long : length active ≡ length free
     pub stand : 192 * length free ≤ length table
     pub free-are : Plane Free free
-    pub needs : {g : ℕ} → g < 64 * length free → g in-plane free → g in-plane active ↔ ((i : ℕ) → i among beliefSets (settingIn x words) g → need (unmaskedIn x words) i ⊆ g)
-    pub entries : {g : ℕ} → g < 64 * length free → g in-plane active → entryAt table g ≡ summary (x .atoms) (beliefSets (settingIn x words) g)
+    pub filled : Filled free active table

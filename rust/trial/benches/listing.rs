@@ -1,6 +1,6 @@
 //! The proved listing and the second solver on named sheets, some hard, some under day masks: the time of each, their
-//! ratio, and that both give the same listing. Then four sheets on one allowance that is large enough, and their four lists one
-//! after the other, both by the program `calls`.
+//! ratio, and that both give the same listing. Then four sheets on one allowance that is large enough, and their four
+//! lists one after the other, both by the program `calls`.
 
 use budkarv::{Atoms, Day};
 use trial::cases::sheets::put;

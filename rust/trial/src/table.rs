@@ -1,5 +1,6 @@
-//! A third way to list, and wrong ways to do it. Sets of atoms are walked outside and guesses inside, 64 a word: for each
-//! set the guesses for which it is stable are found at once, and a table keeps what each guess knows so far.
+//! The way of the proved listing, written again, and wrong ways to do it. Sets of atoms are walked outside and guesses
+//! inside, 64 a word: for each set the guesses for which it is stable are found at once, and a table keeps what the stable
+//! sets of each guess have so far, in all and in some.
 
 use crate::growth::proper_subsets;
 use crate::solver::guess::{guess_of, Guess, Negation};
@@ -92,7 +93,7 @@ struct Digest {
     asked: Guess,
 }
 
-/// What a guess knows of its stable sets so far, and how many they are.
+/// What the stable sets of a guess have so far, in all and in some, and how many they are.
 #[derive(Clone, Copy)]
 struct Entry {
     known: Set,

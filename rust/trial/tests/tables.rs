@@ -22,11 +22,9 @@ use trial::write::{hex, HEAD, K, M, NOT_K, NOT_M, NOT_NOT};
 const FOR_KINDS: [usize; 13] = [20, 10, 10, 10, 20, 80, 80, 80, 40, 20, 20, 20, 40];
 const FOR_WRONG_WAYS: [usize; 13] = [80, 20, 20, 20, 20, 80, 80, 100, 60, 20, 10, 10, 10];
 
-/// How many sheets of 14 and 15 atoms there are, with up to twelve negations and with twelve; and how many of the hard
-/// sheets are compared.
+/// How many sheets of 14 and 15 atoms there are, with up to twelve negations and with twelve.
 const LARGE: usize = 25;
 const FULL: usize = 25;
-const HARD: usize = 8;
 
 /// The fewest sheets that show a kind or a wrong way.
 const FEWEST: usize = 5;
@@ -303,11 +301,11 @@ fn large_sheets() {
     assert!(many >= FEWEST, "{many} sheets; seed {}", seed());
 }
 
-/// The quick sheets of the benchmark, and some of the hard ones.
+/// The quick and the hard sheets of the benchmark.
 #[test]
 fn named_sheets() {
     let mut random = Random::new(seed(), 173);
-    for (_, sheet, masks) in quick().into_iter().chain(hard().into_iter().take(HARD)) {
+    for (_, sheet, masks) in quick().into_iter().chain(hard()) {
         Case::new(sheet, masks).compare(&mut random);
     }
 }

@@ -3,12 +3,12 @@ use Prim.Native.Nat.{_-_, _≤_}
 use mathlib.Core.Path.{_≡_, refl, _∙_}
 use native.Mathlib.Omega.{arith}
 use lib.ListN.{length}
-use Rattle.gather.proofs.Digesting.{First, none-yet, one-more}
+use Rattle.gather.proofs.Digesting.{UpTo, none-yet, one-more}
 use Rattle.gather.proofs.digest.digest_all.Statement.{statement}
 use Rattle.gather.proofs.digest.digest_all.Tie as tie
 
 abbrev Inv-loop : tie.InvT-loop
-Inv-loop words x out₀ j₀ out j = (j ≤ x .rules) × (length out ≡ length out₀) × First x words out j
+Inv-loop words x out₀ j₀ out j = (j ≤ x .rules) × (length out ≡ length out₀) × UpTo x words out j
 
 abbrev μ-loop : tie.MeasureT-loop
 μ-loop words x out₀ j₀ out j = x .rules - j
