@@ -5,6 +5,7 @@
 //! disjunction. No guess near the top is verified where some atom is always in, but for reasons that T and F don't see,
 //! and "not K" of it is asked for; or is never in, and M of it is.
 
+use crate::large::random_rule;
 use crate::random::{Random, SEED};
 use crate::solver::sheet::Rule;
 use crate::write::*;
@@ -85,14 +86,7 @@ fn disjunctions(stream: u64, heads: usize, count: usize) -> Vec<Rule> {
     let mut rules = vec![names_negations(0x3F, 0x3F)];
     rules.extend(choices(9..15));
     for _ in 0..count {
-        let mut rule = [0; 8];
-        for _ in 0..heads {
-            rule[HEAD] |= 1 << random.below(15);
-        }
-        rule[random.pick(&[PLAIN, PLAIN, NOT])] |= 1 << random.below(15);
-        rule[random.pick(&[PLAIN, NOT])] |= 1 << random.below(15);
-        rule[random.pick(&[K, NOT_K, M, NOT_M])] |= 1 << random.below(15) & 0x3F;
-        rules.push(rule);
+        rules.push(random_rule(&mut random, heads, 0x3F));
     }
     rules
 }

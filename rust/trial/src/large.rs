@@ -84,19 +84,24 @@ fn all_ruled() -> Vec<Rule> {
     rules
 }
 
+/// A rule with so many head atoms, two body literals and a subjective one on the atoms of `asked`.
+pub fn random_rule(random: &mut Random, heads: usize, asked: u16) -> Rule {
+    let mut rule = [0; 8];
+    for _ in 0..heads {
+        rule[HEAD] |= 1 << random.below(15);
+    }
+    rule[random.pick(&[PLAIN, PLAIN, NOT])] |= 1 << random.below(15);
+    rule[random.pick(&[PLAIN, NOT])] |= 1 << random.below(15);
+    rule[random.pick(&[K, NOT_K, M, NOT_M])] |= 1 << random.below(15) & asked;
+    rule
+}
+
 /// Random rules with so many head atoms, two body literals and a subjective one on the atoms of `asked`.
 fn random_rules(stream: u64, heads: usize, count: usize, asked: u16) -> Vec<Rule> {
     let mut random = Random::new(SEED, stream);
     let mut rules = vec![names_negations(asked, asked)];
     for _ in 0..count {
-        let mut rule = [0; 8];
-        for _ in 0..heads {
-            rule[HEAD] |= 1 << random.below(15);
-        }
-        rule[random.pick(&[PLAIN, PLAIN, NOT])] |= 1 << random.below(15);
-        rule[random.pick(&[PLAIN, NOT])] |= 1 << random.below(15);
-        rule[random.pick(&[K, NOT_K, M, NOT_M])] |= 1 << random.below(15) & asked;
-        rules.push(rule);
+        rules.push(random_rule(&mut random, heads, asked));
     }
     rules
 }

@@ -1,7 +1,10 @@
 //! The archive's function against the second solver, called as from C: the returned number and every byte of the lent
 //! buffer. And what `budkarv::list` and `budkarv::list_on` make of these bytes.
 
+mod desk;
+
 use budkarv::{Atoms, Day, Listing, WorldView};
+use desk::desk_call;
 use std::time::Instant;
 use trial::damage::{damaged, too_many_negations};
 use trial::known::{kiln, known, titled};
@@ -14,25 +17,8 @@ use trial::solver::calls::{list_code, open_under, Opened};
 use trial::solver::refusal::Refusal;
 use trial::write::*;
 
-extern "C" {
-    fn budkarv_list(
-        sheet: *const u8,
-        sheet_len: usize,
-        in_atoms: u16,
-        out_atoms: u16,
-        bytes: *mut u8,
-        bytes_len: usize,
-    ) -> u32;
-}
-
 /// No day masks.
 const NONE: [u16; 2] = [0, 0];
-
-/// The function of the archive: 0, or the refusal's number times 65,536 plus its place.
-fn desk_call(sheet: &[u8], [in_atoms, out_atoms]: [u16; 2], out: &mut [u8]) -> u32 {
-    // SAFETY: both pairs are those of live slices, `out` is borrowed alone, and the function keeps neither pointer.
-    unsafe { budkarv_list(sheet.as_ptr(), sheet.len(), in_atoms, out_atoms, out.as_mut_ptr(), out.len()) }
-}
 
 const SMALL: Shape = Shape { atoms: (0, 4), rules: (0, 7), negations: 4, literals: 3 };
 const MIDDLE: Shape = Shape { atoms: (3, 7), rules: (2, 16), negations: 7, literals: 4 };

@@ -2,7 +2,9 @@
 //! archive's function, the second solver and the table of all guesses give the same listing; and the sheets have to show
 //! each kind of them and each wrong way to judge 64 guesses at once.
 
-use budkarv as _;
+mod desk;
+
+use desk::desk_call;
 use std::cmp::Reverse;
 use trial::broad::broad_sheet;
 use trial::hard::{hard, quick};
@@ -28,17 +30,6 @@ const FULL: usize = 25;
 
 /// The fewest sheets that show a kind or a wrong way.
 const FEWEST: usize = 5;
-
-extern "C" {
-    fn budkarv_list(
-        sheet: *const u8,
-        sheet_len: usize,
-        in_atoms: u16,
-        out_atoms: u16,
-        bytes: *mut u8,
-        bytes_len: usize,
-    ) -> u32;
-}
 
 /// A sheet, day masks, and both opened for the second solver and for the table.
 struct Case {
@@ -82,10 +73,7 @@ impl Case {
         let mut ours: Vec<u8> = (0..length).map(|i| (i as u8).wrapping_mul(37) ^ salt).collect();
         let mut theirs = ours.clone();
         let expected = list_code(&self.opened, &mut theirs);
-        let [ins, outs] = self.masks;
-        // SAFETY: both pairs are those of live slices, `ours` is borrowed alone, and the function keeps neither pointer.
-        let code =
-            unsafe { budkarv_list(self.sheet.as_ptr(), self.sheet.len(), ins, outs, ours.as_mut_ptr(), ours.len()) };
+        let code = desk_call(&self.sheet, self.masks, &mut ours);
         assert_eq!(code, expected, "the returned number; {}", self.shown());
         assert_eq!(ours, theirs, "the lent bytes; {}", self.shown());
         assert_eq!(self.large.listed(None), self.listed(), "the table; {}", self.shown());
