@@ -2,9 +2,9 @@
 use Prim.Native.Nat.{ℕ, zero, suc, ◌+◌, ◌*◌, ◌/◌, ◌≤◌, ◌<◌, min, zero-le}
 use Rattle.std.specs.Prelude.{◌≡◌, Bool, true, false, List, [], ◌∷◌, ◌++◌, map, ◌⊎◌, eqb, get_or, take, drop}
 use Rattle.std.proofs.Math.Path.{refl, ap}
-use Rattle.std.proofs.Common.{sym, ap₂, ◌∙◌, subst, append_nil, append_assoc, inl, inr, ⊎_elim, add-one, eq-or-lt_of_le, le_of_suc_le_suc, not-suc-le-zero, le_antisymm, mul_comm, div-lt_iff_lt-mul, length-take, take-append-drop, take_all, take_at, take-take, ext_get_or}
+use Rattle.std.proofs.Common.{sym, ap₂, ◌∙◌, subst, append-nil, append_assoc, inl, inr, ⊎_elim, add-one, eq-or-lt_of_le, le_of_suc-le-suc, not-suc-le-zero, le_antisymm, mul_comm, div-lt_iff_lt-mul, length-take, take-append-drop, take_all, take_at, take-take, ext_get_or}
 use native.Mathlib.Omega.{arith}
-use Rattle.std.proofs.Math.Nat.{min-eq_right, mul_suc}
+use Rattle.std.proofs.Math.Nat.{min-eq_right, mul-suc}
 use borrow.Author.Tests.{ltb-true, ltb-false, eqb-true, lt-ltb, eq-eqb, ne_eqb}
 use Rattle.std.proofs.Math.Dec.{ltb}
 use Rattle.std.proofs.Math.ListN.{length, length-append}
@@ -50,7 +50,7 @@ module _ (many : List ℕ) (r : ℕ) (most : (q : ℕ) → q < length many → g
   ended zero h = ap (λ m. flat (round many) (up_to m)) (omega arith)
   ended (suc n) h =
       ⊎_elim (λ e. ap (λ m. flat (round many) (up_to m)) (sym e))
-      (λ l. rounds_more many n ∙ ap₂ ◌++◌ (ended n (le_of_suc_le_suc l)) (over n (le_of_suc_le_suc l)) ∙ append_nil (flat (round many) (up_to r)))
+      (λ l. rounds_more many n ∙ ap₂ ◌++◌ (ended n (le_of_suc-le-suc l)) (over n (le_of_suc-le-suc l)) ∙ append-nil (flat (round many) (up_to r)))
       (eq-or-lt_of_le h)
 
 pub later_rounds : (many : List ℕ) (n : ℕ) → in_all many ≤ n → flat (round many) (up_to n) ≡ turns many
@@ -60,11 +60,11 @@ later_rounds many n h = ended many (in_all many) (λ q _. few many q) n h
 -- ---- the turns begin so
 up_to_begins : (m n : ℕ) → m ≤ n → (rest : List ℕ) × (up_to n ≡ up_to m ++ rest)
 unfolding up_to
-up_to_begins m zero h = ([], ap up_to (let e : 0 ≡ m = omega arith in e) ∙ sym (append_nil (up_to m)))
+up_to_begins m zero h = ([], ap up_to (let e : 0 ≡ m = omega arith in e) ∙ sym (append-nil (up_to m)))
 up_to_begins m (suc n) h =
-    ⊎_elim (λ e. ([], ap up_to (sym e) ∙ sym (append_nil (up_to m))))
+    ⊎_elim (λ e. ([], ap up_to (sym e) ∙ sym (append-nil (up_to m))))
     (λ l.
-    let (rest, e) = up_to_begins m n (le_of_suc_le_suc l) in
+    let (rest, e) = up_to_begins m n (le_of_suc-le-suc l) in
     (rest ++ n ∷ [], ap (λ k. k ++ n ∷ []) e ∙ append_assoc (up_to m) rest (n ∷ [])))
     (eq-or-lt_of_le h)
 
@@ -114,7 +114,7 @@ module _ (f : ℕ → Bool) (q : ℕ) where
   first-had (suc p) h =
       ⊎_elim (λ e. subst (λ p. turns_at (keep f (up_to (suc p))) q ≡ one (f q)) e (omega (arith, first_more q, first_waits q (omega arith), turn_own (f q) q)))
       (λ l. omega (arith, first_more p, first-had p l, turn_other (f p) p q (λ e. omega arith)))
-      (eq-or-lt_of_le (le_of_suc_le_suc h))
+      (eq-or-lt_of_le (le_of_suc-le-suc h))
 
 one_more : (r m : ℕ) → min r m + one (ltb r m) ≡ min (suc r) m
 one_more r m = go (ltb r m) refl
@@ -162,7 +162,7 @@ unfolding keep up_to
 done_all many r allowance most h =
     let n = in_all many + r in
     let e : turns many ≡ done many r 0 =
-    sym (later_rounds many n (omega arith)) ∙ ended many r most n (omega arith) ∙ sym (append_nil (flat (round many) (up_to r))) in
+    sym (later_rounds many n (omega arith)) ∙ ended many r most n (omega arith) ∙ sym (append-nil (flat (round many) (up_to r))) in
     ap (take allowance) e ∙ take_all allowance (done many r 0) h
 
 -- ---- the turns in all
@@ -207,7 +207,7 @@ sum_one x (suc n) h =
     sum_more (turns_at (x ∷ [])) n ∙ ⊎_elim
     (λ e. let own = subst (λ n. turns_at (x ∷ []) n ≡ 1) e (turn_own true x) in omega (arith, sum-before x n (omega arith), own))
     (λ l. omega (arith, sum_one x n l, turn_other true x n (λ e. omega arith)))
-    (eq-or-lt_of_le (le_of_suc_le_suc h))
+    (eq-or-lt_of_le (le_of_suc-le-suc h))
 
 pub add_up : (n : ℕ) (l : List ℕ) → ((q : ℕ) → q among l → q < n) → in_all (map (turns_at l) (up_to n)) ≡ length l
 add_up n [] b = sum-none n
@@ -301,7 +301,7 @@ module _ (many : List ℕ) (a : ℕ) where
         length-append (flat (round many) (up_to r)) (round many r),
         keep_shorter (λ q. ltb r (get_or many q 0)) (up_to (length many)),
         length-up_to (length many),
-        mul_suc (length many) r,
+        mul-suc (length many) r,
       )
 
   done_long : (r p : ℕ) → length (done many r p) ≤ length many * r + p
@@ -331,14 +331,14 @@ module _ (many : List ℕ) (a : ℕ) where
         (decided (dec_lt q p))
 
     pub fair : a < length many * (used p + 1)
-    fair = omega (arith, before_next, done_long (used p) p, mul_suc (length many) (used p))
+    fair = omega (arith, before_next, done_long (used p) p, mul-suc (length many) (used p))
 
     -- "a sheet left unfinished has had at least the allowance divided by the number of sheets, rounded down"
     pub fair_quotient : a / length many ≤ used p
     fair_quotient =
         let some : 0 < length many = omega arith in
         let under : a < (used p + 1) * length many = rw (mul_comm (used p + 1) (length many)) fair in
-        le_of_suc_le_suc (rw add-one at ((div-lt_iff_lt-mul some).1 under))
+        le_of_suc-le-suc (rw add-one at ((div-lt_iff_lt-mul some).1 under))
 
   -- of two sheets left unfinished the earlier has had as many tests as the later, or one more
   pub one_turn_each : (p q : ℕ) → p < q → q < length many → used p < get_or many p 0 → used q < get_or many q 0 → (used q ≤ used p) × (used p ≤ used q + 1)
@@ -377,7 +377,7 @@ sum_lt f g (suc n) p h l m =
     ⊎_elim
     (λ e. let last = subst (λ q. f q < g q) e m in omega (arith, sum_more f n, sum_more g n, sum_le f g n (λ q k. h q (omega arith))))
     (λ k. omega (arith, sum_more f n, sum_more g n, h n (omega arith), sum_lt f g n p (λ q j. h q (omega arith)) k m))
-    (eq-or-lt_of_le (le_of_suc_le_suc l))
+    (eq-or-lt_of_le (le_of_suc-le-suc l))
 
 module _ (many : List ℕ) (a : ℕ) where
   -- with fewer tests at a sheet, and so no more at any, there would be fewer in all

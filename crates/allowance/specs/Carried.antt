@@ -1,6 +1,6 @@
 -- K4: what the result of a granted call carries at each position, what the buffers then hold, and what one call says of another. Assumes nothing.
 use Rattle.std.specs.Prelude.{ℕ, zero, suc, ◌≤◌, ◌<◌, ◌≡◌, refl, true, List, [], ◌∷◌, ◌++◌, map, length, get_or}
-use Rattle.std.proofs.Common.{sym, ap, ◌∙◌, ⊎_elim, arith, le_of_suc_le_suc, not-suc-le-zero, length-take, get_or-take, ext_get_or}
+use Rattle.std.proofs.Common.{sym, ap, ◌∙◌, ⊎_elim, arith, le_of_suc-le-suc, not-suc-le-zero, length-take, get_or-take, ext_get_or}
 use Rattle.std.proofs.lemmas.List.{length-map}
 use Rattle.std.proofs.Math.ListN.{get_or-eq_default, get_or-map}
 use Rattle.sets.specs.Decides.{decided, dec_lt}
@@ -75,14 +75,14 @@ unfolding handed
 handed-share [] buffers d q h l = absurd (not-suc-le-zero h)
 handed-share (x ∷ xs) [] d q h l = absurd (not-suc-le-zero l)
 handed-share (x ∷ xs) (b ∷ bs) d zero h l = refl
-handed-share (x ∷ xs) (b ∷ bs) d (suc q) h l = handed-share xs bs d q (le_of_suc_le_suc h) (le_of_suc_le_suc l)
+handed-share (x ∷ xs) (b ∷ bs) d (suc q) h l = handed-share xs bs d q (le_of_suc-le-suc h) (le_of_suc-le-suc l)
 
 handed-over : (xs : List Share) (buffers : List (List ℕ)) (q : ℕ) → length xs ≤ q → get_or (handed xs buffers) q [] ≡ get_or buffers q []
 unfolding handed
 handed-over [] buffers q h = refl
 handed-over (x ∷ xs) [] q h = refl
 handed-over (x ∷ xs) (b ∷ bs) zero h = absurd (not-suc-le-zero h)
-handed-over (x ∷ xs) (b ∷ bs) (suc q) h = handed-over xs bs q (le_of_suc_le_suc h)
+handed-over (x ∷ xs) (b ∷ bs) (suc q) h = handed-over xs bs q (le_of_suc-le-suc h)
 
 module _ (a : ℕ) (ss : List Setting) (buffers : List (List ℕ)) where
   pub handed-at : (q : ℕ) → q < length ss → q < length buffers

@@ -8,10 +8,12 @@ use Rattle.semantics.specs.Definitions.Setting.{Setting, k}
 use Rattle.semantics.specs.Definitions.Listing.{is_world_view, View, view_of, views_along, record_of, listing, words}
 use Rattle.semantics.specs.Definitions.Sharing.{tests_of, met_in}
 use Rattle.semantics.specs.Theorems.Verdict.{Verified}
-use Rattle.semantics.specs.Theorems.WorldView.{WorldView, definition_6}
+use Rattle.semantics.specs.Theorems.WorldView.{WorldView}
+use Rattle.semantics.proofs.Theorems.WorldView.{definition_6}
 use Rattle.semantics.specs.Theorems.Order.{Before}
-use Rattle.semantics.specs.Theorems.Listing.{views_of}
-use Rattle.semantics.specs.Theorems.Records.{record_at, guess_at, RecordsOf, none, record_at_lem, guess_at_lem, of_records}
+use Rattle.semantics.proofs.Theorems.Listing.{views_of}
+use Rattle.semantics.specs.Theorems.Records.{record_at, guess_at, RecordsOf}
+use Rattle.semantics.proofs.Theorems.Records.{none, record_at_lem, guess_at_lem, of_records}
 use Rattle.allowance.specs.Shares.{met_begins}
 
 -- the first n records of the buffer are those of the world views (000, Definition 6) that are met in t tests

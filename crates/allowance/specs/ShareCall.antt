@@ -9,7 +9,7 @@ use Rattle.semantics.specs.Definitions.Returned.{accepted, refusal}
 use Rattle.semantics.specs.Definitions.Check.{of_sheet}
 use Rattle.semantics.specs.Definitions.Listing.{View}
 use Rattle.semantics.specs.Definitions.Calls.{records_need}
-use Rattle.semantics.specs.Definitions.Sharing.{met_in, turns_at, Share, Shares, paid, shares_of, granted, denied, ◌and-so◌, of_sheets, share_into, shares_into, most_sheets, share_call}
+use Rattle.semantics.specs.Definitions.Sharing.{met_in, turns_at, Share, Shares, paid, shares_of, granted, denied, ◌and_so◌, of_sheets, share_into, shares_into, most_sheets, share_call}
 use Rattle.semantics.specs.Theorems.Returned.{limited_fits, limited_short, fits_limited, short_limited}
 use Rattle.allowance.specs.SheetBySheet.{granted_same, denied_same, not_both, so_granted, so_denied, each_granted, each_denied, granted_exactly, denied_exactly}
 use Rattle.allowance.specs.Shares.{no_sheet, shares_long, share-at}

@@ -1,7 +1,7 @@
 -- K4, "Four studios on one allowance": when a sheet is finished, which views it has met, and what each sheet has of the allowance. Assumes nothing.
 use Rattle.std.specs.Prelude.{ℕ, zero, suc, ◌+◌, ◌/◌, ◌^◌, ◌≤◌, ◌<◌, ◌≡◌, Bool, true, false, ◌↔◌, ◌⊎◌, get_or, drop}
 use Rattle.std.proofs.Math.Path.{refl, sym, ap}
-use Rattle.std.proofs.Common.{ap₂, ◌∙◌, subst, true≢false, inl, inr, le_of_suc_le_suc, not-suc-le-zero, zero-add, add-zero, take_all, take-take, ext_get_or}
+use Rattle.std.proofs.Common.{ap₂, ◌∙◌, subst, true≢false, inl, inr, le_of_suc-le-suc, not-suc-le-zero, zero-add, add-zero, take_all, take-take, ext_get_or}
 use mathlib.Core.List.{List, [], ◌∷◌, ◌++◌, map, map-append}
 use Rattle.std.proofs.Math.Logic.{⊎_elim}
 use native.Mathlib.Omega.{arith}
@@ -14,10 +14,11 @@ use Rattle.semantics.specs.Definitions.Setting.{Setting, k}
 use Rattle.semantics.specs.Definitions.Order.{order}
 use Rattle.semantics.specs.Definitions.Listing.{is_world_view, tested, tally_of, View, view_of, views_along, listing}
 use Rattle.semantics.specs.Definitions.Sharing.{tests_of, met_in, finished_in, in_all, turns, turns_at, Share, share_of, shares_from, paid, shares_of}
-use Rattle.semantics.specs.Theorems.Tally.{Tested, dec_tested}
-use Rattle.semantics.specs.Theorems.Tests.{views_tested}
-use Rattle.semantics.specs.Theorems.Order.{among-order, order_enumerates}
-use Rattle.semantics.specs.Theorems.Walk.{count_along}
+use Rattle.semantics.specs.Theorems.Tally.{Tested}
+use Rattle.semantics.proofs.Theorems.Tally.{dec_tested}
+use Rattle.semantics.proofs.Theorems.Tests.{views_tested}
+use Rattle.semantics.proofs.Theorems.Order.{among-order, order_enumerates}
+use Rattle.semantics.proofs.Theorems.Walk.{count_along}
 use Rattle.allowance.specs.Allowance.{spent_in_all, turns_add_up, turns_few, turns_long, turns-whole, turns_alone, more-turns, none_later_ahead, none_far_ahead, fair_quotient}
 
 -- ---- a sheet's own listing, test by test
@@ -137,7 +138,7 @@ no_sheet = record { atoms = 0; negations = []; program = λ g. [] }
 pub many-at : (ss : List Setting) (p : ℕ) (e : Setting) → p < length ss → get_or (map (λ s. length (tests_of s)) ss) p 0 ≡ length (tests_of (get_or ss p e))
 many-at [] p e h = absurd (not-suc-le-zero h)
 many-at (s ∷ ss) zero e h = refl
-many-at (s ∷ ss) (suc p) e h = many-at ss p e (le_of_suc_le_suc h)
+many-at (s ∷ ss) (suc p) e h = many-at ss p e (le_of_suc-le-suc h)
 
 pub many_long : (ss : List Setting) → length (map (λ s. length (tests_of s)) ss) ≡ length ss
 many_long ss = length-map ss (λ s. length (tests_of s))
@@ -159,7 +160,7 @@ from_at ps p [] q h d e = absurd (not-suc-le-zero h)
 from_at ps p (s ∷ ss) zero h d e = ap (λ n. share_of s (turns_at ps n)) (sym (add-zero p))
 from_at ps p (s ∷ ss) (suc q) h d e =
     let n : suc p + q ≡ p + suc q = omega arith in
-    from_at ps (suc p) ss q (le_of_suc_le_suc h) d e ∙ ap (λ n. share_of (get_or ss q e) (turns_at ps n)) n
+    from_at ps (suc p) ss q (le_of_suc-le-suc h) d e ∙ ap (λ n. share_of (get_or ss q e) (turns_at ps n)) n
 
 module _ (a : ℕ) (ss : List Setting) where
   pub shares_long : length (shares_of a ss).each ≡ length ss

@@ -3,7 +3,7 @@
 use Prim.Native.Nat.{ℕ, zero, suc, ◌+◌, ◌<◌}
 use Rattle.std.specs.Prelude.{◌≡◌, ◌↔◌, ◌⊎◌, get_or}
 use Rattle.std.proofs.Math.Path.{refl, subst}
-use Rattle.std.proofs.Common.{sym, ap, ◌∙◌, inl, inr, le_of_suc_le_suc, not-suc-le-zero, suc-ne-zero}
+use Rattle.std.proofs.Common.{sym, ap, ◌∙◌, inl, inr, le_of_suc-le-suc, not-suc-le-zero, suc-ne-zero}
 use mathlib.Core.List.{List, [], ◌∷◌}
 use Rattle.std.proofs.Math.Logic.{⊎_elim}
 use native.Mathlib.Omega.{arith}
@@ -11,7 +11,7 @@ use Rattle.std.proofs.Math.Nat.{suc_inj}
 use Rattle.std.proofs.Math.ListN.{length}
 use Rattle.sets.specs.Decides.{unequal}
 use Rattle.semantics.specs.Definitions.Returned.{Returned, accepted, refusal}
-use Rattle.semantics.specs.Definitions.Sharing.{Shared, granted, denied, ◌and-so◌, standing, sheet_by_sheet}
+use Rattle.semantics.specs.Definitions.Sharing.{Shared, granted, denied, ◌and_so◌, standing, sheet_by_sheet}
 
 -- no call is both granted and denied
 pub not_both : {A : Type 0} {r : Shared A} {v : A} {number place position : ℕ} → r ≡ granted v → r ≡ denied number place position → ⊥
@@ -101,7 +101,7 @@ module _ {A B : Type 0} (step : ℕ → A → Returned B) where
       let (y, d) = f 0 (omega arith) in
       let now : step p x ≡ accepted y = rw first at d in
       let then =
-      each_denied (suc p) xs a r number place (le_of_suc_le_suc h)
+      each_denied (suc p) xs a r number place (le_of_suc-le-suc h)
       (λ q k. let (z, g) = f (suc q) (omega arith) in (z, rw further at g)) (rw further at e) in
       goes_on p x xs now ∙ rw then (ap (denied number place) (sym (further p r)))
 
@@ -117,7 +117,7 @@ module _ {A B : Type 0} (step : ℕ → A → Returned B) where
       go : (y : B) (zs : List B) → step p x ≡ accepted y → ((q : ℕ) → q < length xs → step (suc p + q) (get_or xs q a) ≡ accepted (get_or zs q b))
           → (q : ℕ) → q < suc (length xs) → step (p + q) (get_or (x ∷ xs) q a) ≡ accepted (get_or (y ∷ zs) q b)
       go y zs now f zero h = rw first now
-      go y zs now f (suc q) h = rw further (f q (le_of_suc_le_suc h))
+      go y zs now f (suc q) h = rw further (f q (le_of_suc-le-suc h))
 
   denied_first : (p : ℕ) (l : List A) (a : A) (number place position : ℕ) → sheet_by_sheet step p l ≡ denied number place position
       → FirstRefused p l a number place position
@@ -137,7 +137,7 @@ module _ {A B : Type 0} (step : ℕ → A → Returned B) where
       go : (y : B) (r : ℕ) → step p x ≡ accepted y → ((q : ℕ) → q < r → (z : B) × (step (suc p + q) (get_or xs q a) ≡ accepted z))
           → (q : ℕ) → q < suc r → (z : B) × (step (p + q) (get_or (x ∷ xs) q a) ≡ accepted z)
       go y r now f zero h = (y, rw first now)
-      go y r now f (suc q) h = let (z, e) = f q (le_of_suc_le_suc h) in (z, rw further e)
+      go y r now f (suc q) h = let (z, e) = f q (le_of_suc-le-suc h) in (z, rw further e)
 
   pub granted_exactly : (p : ℕ) (l : List A) (ys : List B) (a : A) (b : B) → (sheet_by_sheet step p l ≡ granted ys) ↔ EachAccepted p l ys a b
   granted_exactly p l ys a b = (granted_each p l ys a b, λ (n, f). each_granted p l ys a b n f)

@@ -1,1 +1,2 @@
 // No code: this crate is theorems, in specs/.
+#![tactic(auto)]

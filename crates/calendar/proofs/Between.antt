@@ -2,17 +2,18 @@
 use Prim.Native.Nat.{ℕ, zero, suc, ◌≤◌, ◌<◌}
 use mathlib.Core.Path.{◌≡◌, refl, sym, ap, ap₂, ◌∙◌}
 use mathlib.Core.Bool.{Bool, true, false, ◌&&◌, not, cond, true≢false}
-use mathlib.Core.List.{List, [], ◌∷◌, ◌++◌, append_nil, foldl}
+use mathlib.Core.List.{List, [], ◌∷◌, ◌++◌, append-nil, foldl}
 use mathlib.Core.Logic.{◌⊎◌, inl, inr, ⊎_elim}
 use native.Mathlib.Omega.{arith}
-use native.Mathlib.Nat.{eq-or-lt_of_le, le_of_suc_le_suc}
+use native.Mathlib.Nat.{eq-or-lt_of_le, le_of_suc-le-suc}
 use borrow.Author.Tests.{ltb-true, ltb-false}
 use lib.Dec.{ltb, eqb}
 use Rattle.sets.specs.Decides.{is_true}
 use Rattle.sets.specs.Lists.{◌among◌, nowhere, first_or_later, keep, only, keep_snoc, up_to}
 use Rattle.semantics.specs.Definitions.Calendar.{Entry, last_minute, earlier, rules_in_force, changes_at, minutes_of_change}
-use Rattle.semantics.specs.Theorems.InForce.{AllProper, NoEnd, no_change}
-use Rattle.semantics.specs.Theorems.Changes.{dec_changes, minute_listed, unchanged}
+use Rattle.semantics.specs.Theorems.InForce.{AllProper, NoEnd}
+use Rattle.semantics.proofs.Theorems.InForce.{no_change}
+use Rattle.semantics.proofs.Theorems.Changes.{dec_changes, minute_listed, unchanged}
 use Rattle.calendar.specs.Next.{nearer_to, with_ends, next_of}
 
 -- ---- the next minute at which an entry begins or ends
@@ -92,8 +93,8 @@ module _ (minute : ℕ) (es : List Entry) (real : minute ≤ last_minute) where
         (λ same. ap (λ z. keep (changes_at es rules) (up_to (suc z))) (sym same))
         (λ later.
         keep_snoc (changes_at es rules) (up_to b) b ∙ ap (λ t. keep (changes_at es rules) (up_to b) ++ only t b) (still b later (omega arith))
-        ∙ append_nil _ ∙ list_stays b later (omega arith))
-        (eq-or-lt_of_le (le_of_suc_le_suc l))
+        ∙ append-nil _ ∙ list_stays b later (omega arith))
+        (eq-or-lt_of_le (le_of_suc-le-suc l))
 
     force_stays : (b : ℕ) → minute ≤ b → b < next_of minute es → rules_in_force es rules b ≡ rules_in_force es rules minute
     force_stays b l h =

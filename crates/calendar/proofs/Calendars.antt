@@ -9,7 +9,7 @@ use Rattle.semantics.specs.Definitions.Reading.{Reading, field, refused, times}
 use Rattle.semantics.specs.Definitions.Sheet.{count_at}
 use Rattle.semantics.specs.Definitions.Calendar.{Entry, most_entries, entry_at, calendar_of}
 use Rattle.semantics.specs.Theorems.Reading.{field_same, times-length}
-use Rattle.semantics.specs.Theorems.Fields.{count_field}
+use Rattle.semantics.proofs.Theorems.Fields.{count_field}
 use Rattle.calendar.specs.declared.entries.Step.{Step}
 use Rattle.calendar.specs.declared.entries.Step.TheVariants.{Got, Refused}
 use Rattle.calendar.specs.Entries.{entries_in}

@@ -10,7 +10,8 @@ use Rattle.sets.specs.Lists.{◌among◌, here, later, nowhere, first_or_later, 
 use Rattle.sets.specs.Sets.{◌∈◌, ◌∪◌, ∅, single}
 use Rattle.sets.specs.Members.{∈-∪, ∈_cond, ∈-set_of, ∈_ext}
 use Rattle.semantics.specs.Definitions.Calendar.{Entry, holds, entries_of, rules_in_force}
-use Rattle.semantics.specs.Theorems.InForce.{AllProper, among-entries_of, dec_in_force, ∈-rules_in_force}
+use Rattle.semantics.specs.Theorems.InForce.{AllProper}
+use Rattle.semantics.proofs.Theorems.InForce.{among-entries_of, dec_in_force, ∈-rules_in_force}
 use Rattle.calendar.specs.Entries.{Numbered, Entries}
 use Rattle.calendar.specs.Force.{unrestricted, with_rule, held_from}
 

@@ -6,8 +6,8 @@ use mathlib.Core.List.{List, [], ◌∷◌, ◌++◌}
 use native.Mathlib.Omega.{arith}
 use borrow.Author.Tests.{lt-ltb, le-ltb, le-leb, lt-leb}
 use lib.Dec.{leb, eqb}
-use lib.ListN.{length, take, set, length_set}
-use lib.Seq.{get_or_set_same, get_or_set_other, take_set_le}
+use lib.ListN.{length, take, set, length-set}
+use lib.Seq.{get_or-set_same, get_or-set_other, take-set-le}
 use Rattle.sets.specs.Decides.{unequal}
 use Rattle.sets.specs.Lists.{◌among◌, up_to, among-map, among-up_to, map_up_to_same}
 use Rattle.semantics.specs.Definitions.Reading.{Reading, field, refused, times}
@@ -33,25 +33,25 @@ module _ (out : List ℕ) (i rule first end : ℕ) (room : 3 * i + 3 ≤ length 
   stored = set two (3 * i + 2) end
 
   pub long_one : length one ≡ length out
-  long_one = length_set out (3 * i) rule
+  long_one = length-set out (3 * i) rule
 
   pub long_two : length two ≡ length out
-  long_two = length_set one (3 * i + 1) first ∙ long_one
+  long_two = length-set one (3 * i + 1) first ∙ long_one
 
   pub stored_long : length stored ≡ length out
-  stored_long = length_set two (3 * i + 2) end ∙ long_two
+  stored_long = length-set two (3 * i + 2) end ∙ long_two
 
   pub stored_stays : take (3 * i) stored ≡ take (3 * i) out
   stored_stays =
-      take_set_le (3 * i) two (3 * i + 2) end (omega arith) ∙ take_set_le (3 * i) one (3 * i + 1) first (omega arith)
-      ∙ take_set_le (3 * i) out (3 * i) rule (omega arith)
+      take-set-le (3 * i) two (3 * i + 2) end (omega arith) ∙ take-set-le (3 * i) one (3 * i + 1) first (omega arith)
+      ∙ take-set-le (3 * i) out (3 * i) rule (omega arith)
 
   pub stored-entry : entry_in stored i ≡ entry_of rule first end
   stored-entry =
-      let a = get_or_set_other two (3 * i + 2) (3 * i) end 0 (λ z. omega arith) ∙ get_or_set_other one (3 * i + 1) (3 * i) first 0 (λ z. omega arith)
-      ∙ get_or_set_same out (3 * i) rule 0 (omega arith) in
-      let b = get_or_set_other two (3 * i + 2) (3 * i + 1) end 0 (λ z. omega arith) ∙ get_or_set_same one (3 * i + 1) first 0 (omega (arith, long_one)) in
-      let c = get_or_set_same two (3 * i + 2) end 0 (omega (arith, long_two)) in
+      let a = get_or-set_other two (3 * i + 2) (3 * i) end 0 (λ z. omega arith) ∙ get_or-set_other one (3 * i + 1) (3 * i) first 0 (λ z. omega arith)
+      ∙ get_or-set_same out (3 * i) rule 0 (omega arith) in
+      let b = get_or-set_other two (3 * i + 2) (3 * i + 1) end 0 (λ z. omega arith) ∙ get_or-set_same one (3 * i + 1) first 0 (omega (arith, long_one)) in
+      let c = get_or-set_same two (3 * i + 2) end 0 (omega (arith, long_two)) in
       λ j. entry_of (a j) (b j) (c j)
 
 -- ---- one entry more, after the first n

@@ -9,7 +9,7 @@ ghost use Rattle.calendar.specs.Steps.{step_of, Entered, AllEntered, ReadInto};
 use sheet::{present, word};
 
 // What a reading step answers: the number that it read, or the next place; or a refusal, by number and place.
-#[derive(Drop)]
+#[derive(Clone, Copy)]
 pub enum Step {
     Got(usize),
     Refused(u8, usize),

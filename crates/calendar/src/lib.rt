@@ -1,4 +1,6 @@
 // A calendar: its entries in words, three an entry, the rules in force at a minute and the minutes of change.
+#![tactic(auto)]
+
 mod entries;
 mod force;
 mod minutes;

@@ -1,7 +1,7 @@
 // What the calls answer, as fields.
 ghost use Rattle.std.specs.Prelude.{◌≤◌, length};
 
-use super::output::field;
+use super::output::{Output, field};
 use super::request::Asked;
 use engine::{
     Checked, Counted, Judged, Listed, Queried, Share, Shared, Shares, belief_sets, changes, check,
@@ -9,34 +9,34 @@ use engine::{
 };
 
 // A refusal.
-fn refused(number: u8, place: usize, at: usize, out: &mut [u8]) -> usize
+fn refused(number: u8, place: usize, at: usize, out: &mut [u8], output: &mut Output) -> usize
     requires { (at ≤ length out.old) × (1024 ≤ length out.old) }
     ensures { result ≤ length out.new }
 {
-    let a = field(number as usize, at, out);
-    field(place, a, out)
+    let a = field(number as usize, at, out, output);
+    field(place, a, out, output)
 }
 
 // Accepted, with one number.
-fn accepted(x: usize, at: usize, out: &mut [u8]) -> usize
+fn accepted(x: usize, at: usize, out: &mut [u8], output: &mut Output) -> usize
     requires { (at ≤ length out.old) × (1024 ≤ length out.old) }
     ensures { result ≤ length out.new }
 {
-    let a = field(0, at, out);
-    field(x, a, out)
+    let a = field(0, at, out, output);
+    field(x, a, out, output)
 }
 
 // Three numbers.
-fn three(x: usize, y: usize, z: usize, at: usize, out: &mut [u8]) -> usize
+fn three(x: usize, y: usize, z: usize, at: usize, out: &mut [u8], output: &mut Output) -> usize
     requires { (at ≤ length out.old) × (1024 ≤ length out.old) }
     ensures { result ≤ length out.new }
 {
-    let a = field(x, at, out);
-    let b = field(y, a, out);
-    field(z, b, out)
+    let a = field(x, at, out, output);
+    let b = field(y, a, out, output);
+    field(z, b, out, output)
 }
 
-fn checked(r: Checked, at: usize, out: &mut [u8]) -> usize
+fn checked(r: Checked, at: usize, out: &mut [u8], output: &mut Output) -> usize
     requires { (at ≤ length out.old) × (1024 ≤ length out.old) }
     ensures { result ≤ length out.new }
 {
@@ -46,46 +46,46 @@ fn checked(r: Checked, at: usize, out: &mut [u8]) -> usize
             rules,
             negations,
         } => {
-            let a = field(0, at, out);
-            three(atoms, rules, negations, a, out)
+            let a = field(0, at, out, output);
+            three(atoms, rules, negations, a, out, output)
         }
-        Checked::Refused { number, place } => refused(number, place, at, out),
+        Checked::Refused { number, place } => refused(number, place, at, out, output),
     }
 }
 
-fn judged(r: Judged, at: usize, out: &mut [u8]) -> usize
+fn judged(r: Judged, at: usize, out: &mut [u8], output: &mut Output) -> usize
     requires { (at ≤ length out.old) × (1024 ≤ length out.old) }
     ensures { result ≤ length out.new }
 {
     match r {
-        Judged::Empty => accepted(0, at, out),
+        Judged::Empty => accepted(0, at, out, output),
         Judged::Other { found } => {
-            let a = accepted(1, at, out);
-            field(found as usize, a, out)
+            let a = accepted(1, at, out, output);
+            field(found as usize, a, out, output)
         }
         Judged::Verified {
             known,
             possible,
             sets,
         } => {
-            let a = accepted(2, at, out);
-            three(known as usize, possible as usize, sets, a, out)
+            let a = accepted(2, at, out, output);
+            three(known as usize, possible as usize, sets, a, out, output)
         }
-        Judged::Refused { number, place } => refused(number, place, at, out),
+        Judged::Refused { number, place } => refused(number, place, at, out, output),
     }
 }
 
-fn counted(r: Counted, at: usize, out: &mut [u8]) -> usize
+fn counted(r: Counted, at: usize, out: &mut [u8], output: &mut Output) -> usize
     requires { (at ≤ length out.old) × (1024 ≤ length out.old) }
     ensures { result ≤ length out.new }
 {
     match r {
-        Counted::Accepted { count } => accepted(count, at, out),
-        Counted::Refused { number, place } => refused(number, place, at, out),
+        Counted::Accepted { count } => accepted(count, at, out, output),
+        Counted::Refused { number, place } => refused(number, place, at, out, output),
     }
 }
 
-fn listed(r: Listed, at: usize, out: &mut [u8]) -> usize
+fn listed(r: Listed, at: usize, out: &mut [u8], output: &mut Output) -> usize
     requires { (at ≤ length out.old) × (1024 ≤ length out.old) }
     ensures { result ≤ length out.new }
 {
@@ -98,24 +98,24 @@ fn listed(r: Listed, at: usize, out: &mut [u8]) -> usize
             empty,
             other,
         } => {
-            let a = field(0, at, out);
-            let b = three(views, covered, ruled, a, out);
-            three(tested, empty, other, b, out)
+            let a = field(0, at, out, output);
+            let b = three(views, covered, ruled, a, out, output);
+            three(tested, empty, other, b, out, output)
         }
-        Listed::Refused { number, place } => refused(number, place, at, out),
+        Listed::Refused { number, place } => refused(number, place, at, out, output),
     }
 }
 
-fn queried(r: Queried, at: usize, out: &mut [u8]) -> usize
+fn queried(r: Queried, at: usize, out: &mut [u8], output: &mut Output) -> usize
     requires { (at ≤ length out.old) × (1024 ≤ length out.old) }
     ensures { result ≤ length out.new }
 {
     match r {
-        Queried::Yes => accepted(0, at, out),
-        Queried::No => accepted(1, at, out),
-        Queried::Open => accepted(2, at, out),
-        Queried::None => accepted(3, at, out),
-        Queried::Refused { number, place } => refused(number, place, at, out),
+        Queried::Yes => accepted(0, at, out, output),
+        Queried::No => accepted(1, at, out, output),
+        Queried::Open => accepted(2, at, out, output),
+        Queried::None => accepted(3, at, out, output),
+        Queried::Refused { number, place } => refused(number, place, at, out, output),
     }
 }
 
@@ -127,41 +127,48 @@ fn bit(b: bool) -> usize {
 }
 
 // What a sheet got, if its position is below the count.
-fn shared_by(position: usize, count: usize, x: Share, at: usize, out: &mut [u8]) -> usize
+fn shared_by(
+    position: usize,
+    count: usize,
+    x: Share,
+    at: usize,
+    out: &mut [u8],
+    output: &mut Output,
+) -> usize
     requires { (at ≤ length out.old) × (1024 ≤ length out.old) }
     ensures { result ≤ length out.new }
 {
     if position < count {
-        return three(bit(x.finished), x.tests, x.views, at, out);
+        return three(bit(x.finished), x.tests, x.views, at, out, output);
     }
     at
 }
 
-fn shares(x: Shares, count: usize, at: usize, out: &mut [u8]) -> usize
+fn shares(x: Shares, count: usize, at: usize, out: &mut [u8], output: &mut Output) -> usize
     requires { (at ≤ length out.old) × (1024 ≤ length out.old) }
     ensures { result ≤ length out.new }
 {
-    let a = accepted(x.tests, at, out);
-    let b = shared_by(0, count, x.first, a, out);
-    let c = shared_by(1, count, x.second, b, out);
-    let d = shared_by(2, count, x.third, c, out);
-    shared_by(3, count, x.fourth, d, out)
+    let a = accepted(x.tests, at, out, output);
+    let b = shared_by(0, count, x.first, a, out, output);
+    let c = shared_by(1, count, x.second, b, out, output);
+    let d = shared_by(2, count, x.third, c, out, output);
+    shared_by(3, count, x.fourth, d, out, output)
 }
 
 // The refusal's number, place and position, or 0, the tests in all, and what each of so many sheets got.
-pub fn shared(r: Shared, count: usize, at: usize, out: &mut [u8]) -> usize
+pub fn shared(r: Shared, count: usize, at: usize, out: &mut [u8], output: &mut Output) -> usize
     requires { (at ≤ length out.old) × (1024 ≤ length out.old) }
     ensures { result ≤ length out.new }
 {
     match r {
-        Shared::Accepted(x) => shares(x, count, at, out),
+        Shared::Accepted(x) => shares(x, count, at, out, output),
         Shared::Refused {
             number,
             place,
             position,
         } => {
-            let a = refused(number, place, at, out);
-            field(position, a, out)
+            let a = refused(number, place, at, out, output);
+            field(position, a, out, output)
         }
     }
 }
@@ -174,26 +181,39 @@ pub fn answer(
     words: &mut [u16],
     at: usize,
     out: &mut [u8],
+    output: &mut Output,
 ) -> usize
     requires { (at ≤ length out.old) × (1024 ≤ length out.old) }
     ensures { result ≤ length out.new }
 {
     let call = asked.call;
     match call {
-        0 => checked(check(sheet), at, out),
+        0 => checked(check(sheet), at, out, output),
         1 => judged(
             verdict(sheet, asked.ins, asked.outs, asked.argument),
             at,
             out,
+            output,
         ),
         2 => counted(
             belief_sets(sheet, asked.ins, asked.outs, asked.argument, words),
             at,
             out,
+            output,
         ),
-        3 => listed(list(sheet, asked.ins, asked.outs, words), at, out),
-        4 => queried(query(sheet, asked.ins, asked.outs, asked.argument), at, out),
-        5 => listed(list_at(sheet, companion, asked.argument, words), at, out),
-        _ => counted(changes(sheet, companion, words), at, out),
+        3 => listed(list(sheet, asked.ins, asked.outs, words), at, out, output),
+        4 => queried(
+            query(sheet, asked.ins, asked.outs, asked.argument),
+            at,
+            out,
+            output,
+        ),
+        5 => listed(
+            list_at(sheet, companion, asked.argument, words),
+            at,
+            out,
+            output,
+        ),
+        _ => counted(changes(sheet, companion, words), at, out, output),
     }
 }

@@ -6,7 +6,7 @@ use super::request::{wide, word};
 
 // A sheet from its first byte to past its last, the cells lent, and where the next one stands. One that is cut off or over a bound is not
 // `whole`.
-#[derive(Drop)]
+#[derive(Clone, Copy)]
 pub struct Part {
     pub whole: bool,
     pub from: usize,
@@ -16,7 +16,7 @@ pub struct Part {
 }
 
 // The number told, and the sheets: those that are not there are empty, with no cells. `whole` says that each is, and that no byte is left.
-#[derive(Drop)]
+#[derive(Clone, Copy)]
 pub struct Parts {
     pub whole: bool,
     pub count: usize,

@@ -21,7 +21,9 @@
 // printed one after the other. A refusal of 7 has the sheet's position after the place.
 //
 // A request that is cut off, too long or of another call ends the program, and nothing is printed for it; so too one of call 7 whose companion
-// is cut off, has bytes left or is over a bound.
+// is cut off, has bytes left or is over a bound. A read or a write that fails ends it with its error.
+#![tactic(auto)]
+
 mod answers;
 mod companion;
 mod line;
@@ -30,11 +32,13 @@ mod request;
 mod shared;
 
 use request::request;
+use std::io;
 
 // A proved loop ends, and nothing says that the input does: the requests are counted down from 2^62.
-fn main() {
+fn main(rt: HostRuntime) -> io::Result<()> {
     let mut left: u64 = 4611686018427387904;
-    while 0 < left && request() {
+    while 0 < left && request(rt.stdin(), rt.stdout())? {
         left -= 1;
     }
+    Ok(())
 }

@@ -5,8 +5,10 @@ ghost use Rattle.calls.specs.Within.{Within, AllWithin};
 use super::answers::shared;
 use super::companion::{Part, Parts, read_parts};
 use super::line::fill;
-use super::output::{each, flush, mark};
+use super::output::{Output, begin, each, end, flush, mark};
 use engine::{Shared, share};
+use std::io;
+use std::io::Stdout;
 
 // The bytes of a sheet.
 fn sheet<'a>(p: Part, companion: &'a [u8]) -> &'a [u8]
@@ -50,14 +52,15 @@ fn buffers<'a>(
     d: &'a [u16],
     at: usize,
     out: &mut [u8],
+    output: &mut Output,
 ) -> usize
     requires { (at ≤ length out.old) × (1024 ≤ length out.old) }
     ensures { result ≤ length out.new }
 {
-    let e = each(a, at, out);
-    let f = each(b, e, out);
-    let g = each(c, f, out);
-    each(d, g, out)
+    let e = each(a, at, out, output);
+    let f = each(b, e, out, output);
+    let g = each(c, f, out, output);
+    each(d, g, out, output)
 }
 
 // The line of an answer, of so many sheets.
@@ -69,15 +72,18 @@ fn line<'a>(
     c: &'a [u16],
     d: &'a [u16],
     out: &mut [u8],
-)
+    stdout: Stdout,
+) -> io::Result<()>
     requires { 1024 ≤ length out.old }
 {
+    let mut output = begin(stdout);
     let e = text::put_decimal(7, 0, out);
-    let f = shared(r, count, e, out);
-    let g = mark(b" :", f, out);
-    let h = buffers(a, b, c, d, g, out);
-    let i = mark(b"\n", h, out);
-    flush(i, out);
+    let f = shared(r, count, e, out, &mut output);
+    let g = mark(b" :", f, out, &mut output);
+    let h = buffers(a, b, c, d, g, out, &mut output);
+    let i = mark(b"\n", h, out, &mut output);
+    flush(i, out, &mut output);
+    end(output)
 }
 
 // The call on the buffers, each with `first` in its first cell, and its line.
@@ -90,23 +96,29 @@ fn lend(
     b: &mut [u16],
     c: &mut [u16],
     d: &mut [u16],
-)
+    stdout: Stdout,
+) -> io::Result<()>
     requires { AllWithin p (length companion.now) }
 {
     fill(a, first);
     fill(b, first);
     fill(c, first);
     fill(d, first);
-    let mut out = io::large_buffer();
+    let mut out = [0u8; 65536];
     let r = called(p, companion, allowance, a, b, c, d);
-    line(r, p.count, a, b, c, d, &mut out);
+    line(r, p.count, a, b, c, d, &mut out, stdout)
 }
 
 // Answers whether the companion is whole; if not, nothing is called and nothing printed.
-pub fn respond_shared(companion: &[u8], allowance: usize, first: u16) -> bool {
+pub fn respond_shared(
+    companion: &[u8],
+    allowance: usize,
+    first: u16,
+    stdout: Stdout,
+) -> io::Result<bool> {
     let p = read_parts(companion);
     if !p.whole {
-        return false;
+        return Ok(false);
     }
     let mut a = [0u16; 8000];
     let mut b = [0u16; 8000];
@@ -125,6 +137,7 @@ pub fn respond_shared(companion: &[u8], allowance: usize, first: u16) -> bool {
         &mut b[0..j],
         &mut c[0..k],
         &mut d[0..l],
-    );
-    true
+        stdout,
+    )?;
+    Ok(true)
 }

@@ -6,7 +6,7 @@ use mathlib.Core.Logic.{inl, inr, ⊎_elim}
 use native.Mathlib.Omega.{arith}
 use native.Mathlib.Nat.{not-suc-le-zero}
 use lib.ListN.{length, get_or, set}
-use lib.Seq.{get_or_set_same, get_or_set_other}
+use lib.Seq.{get_or-set_same, get_or-set_other}
 use borrow.Author.Count.{below_more}
 use Rattle.sets.specs.Decides.{decided, dec_eq}
 use Rattle.sets.specs.Sets.{◌∈◌, ◌⊆◌, ◌∩◌, ◌∪◌, ◌∖◌, ∅, single}
@@ -61,12 +61,12 @@ module _ (d : Digest) (w : ℕ) (by : List ℕ) where
   }
     where
       at : (k : ℕ) → k ≡ a → get_or (set after a (get_or after a 0 ∪ x)) k 0 ≡ get_or after a 0 ∪ x
-      at k z = rw z (get_or_set_same after a _ 0 h)
+      at k z = rw z (get_or-set_same after a _ 0 h)
 
       more : (k : ℕ) {b : ℕ} → b ∈ get_or after k 0 → b ∈ get_or (set after a (get_or after a 0 ∪ x)) k 0
       more k {b} m =
           ⊎_elim (λ z. subst (λ y. b ∈ y) (sym (at k z)) ((∈-∪ b (get_or after a 0) x).1 (inl (rw z at m))))
-          (λ z. subst (λ y. b ∈ y) (sym (get_or_set_other after a k _ 0 z)) m) (decided (dec_eq k a))
+          (λ z. subst (λ y. b ∈ y) (sym (get_or-set_other after a k _ 0 z)) m) (decided (dec_eq k a))
 
   pub all_added : {rest : ℕ} {after : List ℕ} → rest ≡ 0 → AddedBut rest after → SupportAdded d w by after
   all_added e s = record { kept = s.kept; added = λ {a} l u. s.added l (λ m. ∈-∅ (subst (λ z. a ∈ z) e m)) u }

@@ -14,8 +14,8 @@ use Rattle.semantics.specs.Definitions.Setting.{Setting}
 use Rattle.semantics.specs.Definitions.Day.{allowed}
 use Rattle.semantics.specs.Words.{masks_in}
 use Rattle.semantics.specs.AtSet.{StableBy}
-use Rattle.semantics.specs.Theorems.AtSet.{stable_gathered_under}
-use Rattle.semantics.specs.Theorems.Candidates.{failing_struck, unsupported_struck}
+use Rattle.semantics.proofs.Theorems.AtSet.{stable_gathered_under}
+use Rattle.semantics.proofs.Theorems.Candidates.{failing_struck, unsupported_struck}
 use Rattle.guess.specs.declared.outline.Outline.{Outline}
 use Rattle.guess.specs.Programs.{unmasked_in, Outlines}
 use Rattle.guess.specs.Numbered.{rules_of, rule_there, rule_number, masks_below}

@@ -1,4 +1,6 @@
 // The sets of atoms that may be stable for some guess, 64 a word: lane b of word w is the set 64w + b. The others no guess makes stable.
+#![tactic(auto)]
+
 pub mod support;
 
 ghost use Rattle.std.specs.Prelude.{◌+◌, ◌*◌, ◌≤◌, length};

@@ -16,11 +16,11 @@ use Rattle.semantics.specs.Theorems.Returned.{fits_limited, short_limited, answe
 use Rattle.semantics.specs.Walk.{records_room}
 use Rattle.semantics.specs.Theorems.Source.{Bounded}
 use Rattle.semantics.specs.Theorems.Tally.{AtMost}
-use Rattle.semantics.specs.Theorems.Listing.{listing_long}
-use Rattle.semantics.specs.Theorems.Records.{words_long}
-use Rattle.semantics.specs.Theorems.ListCall.{result-given, result_says, list_refused}
-use Rattle.semantics.specs.Theorems.DaySource.{day_bounded}
-use Rattle.semantics.specs.Theorems.Desk.{tally_small, refused_small, never_short}
+use Rattle.semantics.proofs.Theorems.Listing.{listing_long}
+use Rattle.semantics.proofs.Theorems.Records.{words_long}
+use Rattle.semantics.proofs.Theorems.ListCall.{result-given, result_says, list_refused}
+use Rattle.semantics.proofs.Theorems.DaySource.{day_bounded}
+use Rattle.semantics.proofs.Theorems.Desk.{tally_small, refused_small, never_short}
 use Rattle.engine.specs.declared.Listed.{Listed}
 use Rattle.engine.specs.declared.Listed.TheVariants.{Accepted, Refused}
 use Rattle.engine.specs.Answers.{listed}

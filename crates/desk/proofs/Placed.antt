@@ -2,7 +2,7 @@
 use Prim.Native.Nat.{ℕ, zero, suc, ◌+◌, ◌*◌, ◌-◌, ◌/◌, ◌%◌, ◌≤◌, ◌<◌}
 use mathlib.Core.Path.{◌≡◌, refl, sym, ap, ap₂, ◌∙◌}
 use mathlib.Core.List.{List, [], ◌∷◌, ◌++◌, append_assoc}
-use native.Mathlib.Nat.{le_of_suc_le_suc, not-suc-le-zero}
+use native.Mathlib.Nat.{le_of_suc-le-suc, not-suc-le-zero}
 use native.Mathlib.Numerals.{add-one}
 use native.Mathlib.Omega.{arith}
 use lib.ListN.{length, get_or, set, take, drop, length-append}
@@ -48,7 +48,7 @@ pair (w ∷ words) [] i h l = absurd (not-suc-le-zero l)
 pair (w ∷ words) (x ∷ []) i h l = absurd (omega arith)
 pair (w ∷ words) (x ∷ y ∷ out) zero h l = refl
 pair (w ∷ words) (x ∷ y ∷ out) (suc i) h l =
-    ap (λ m. w % 256 ∷ w / 256 ∷ m) (pair words out i (le_of_suc_le_suc h) (le_of_suc_le_suc (le_of_suc_le_suc l)))
+    ap (λ m. w % 256 ∷ w / 256 ∷ m) (pair words out i (le_of_suc-le-suc h) (le_of_suc-le-suc (le_of_suc-le-suc l)))
 
 pub one_more : (words out : List ℕ) (i : ℕ) → i < length words → 2 * i + 1 < length out
     → set (set (holds words out i) (2 * i) (get_or words i 0 % 256)) (2 * i + 1) (get_or words i 0 / 256) ≡ holds words out (i + 1)

@@ -6,10 +6,11 @@ use Rattle.semantics.specs.Definitions.Returned.{Returned, accepted, refusal, af
 use Rattle.semantics.specs.Definitions.Calls.{Result}
 use Rattle.semantics.specs.Definitions.Desk.{desk_need, desk_bytes, desk_call, desk_number}
 use Rattle.semantics.specs.Definitions.Day.{of_day}
-use Rattle.semantics.specs.Theorems.ListCall.{list_refused}
-use Rattle.semantics.specs.Theorems.Desk.{refused_small}
-use Rattle.semantics.specs.Theorems.DaySource.{day_bounded}
-use Rattle.semantics.specs.Theorems.DayCall.{DayDemand, day_demand}
+use Rattle.semantics.proofs.Theorems.ListCall.{list_refused}
+use Rattle.semantics.proofs.Theorems.Desk.{refused_small}
+use Rattle.semantics.proofs.Theorems.DaySource.{day_bounded}
+use Rattle.semantics.specs.Theorems.DayCall.{DayDemand}
+use Rattle.semantics.proofs.Theorems.DayCall.{day_demand}
 use Rattle.desk.specs.Demand3.{desk_demand}
 
 -- r is what the desk call returns of that source where it is lent `before`, and leaves `after`

@@ -7,13 +7,15 @@ use Rattle.semantics.specs.Definitions.Listing.{Tally, six, tally_of, listing, w
 use Rattle.semantics.specs.Definitions.Calls.{Result, result_of}
 use Rattle.semantics.specs.Definitions.Desk.{bytes_of, words_in, desk_need, desk_bytes, desk_call, desk_number}
 use Rattle.semantics.specs.Theorems.Returned.{fits_limited, short_limited}
-use Rattle.semantics.specs.Theorems.Tally.{Number, TallyOf, is_tally}
+use Rattle.semantics.specs.Theorems.Tally.{Number, TallyOf}
+use Rattle.semantics.proofs.Theorems.Tally.{is_tally}
 use Rattle.semantics.specs.Theorems.WorldView.{WorldView}
-use Rattle.semantics.specs.Theorems.Listing.{views_of, listing_long, listing-many}
-use Rattle.semantics.specs.Theorems.Records.{RecordsOf, of_records, words_long}
-use Rattle.semantics.specs.Theorems.ListCall.{result-given, result_says, list_refused}
+use Rattle.semantics.proofs.Theorems.Listing.{views_of, listing_long, listing-many}
+use Rattle.semantics.specs.Theorems.Records.{RecordsOf}
+use Rattle.semantics.proofs.Theorems.Records.{of_records, words_long}
+use Rattle.semantics.proofs.Theorems.ListCall.{result-given, result_says, list_refused}
 use Rattle.semantics.specs.Theorems.Source.{Bounded}
-use Rattle.semantics.specs.Theorems.Desk.{words_back, bytes_long, refused_small}
+use Rattle.semantics.proofs.Theorems.Desk.{words_back, bytes_long, refused_small}
 
 -- what the desk call leaves where it returns 0
 pub record DeskWritten (from : Returned Setting) (t : Tally) (before after : List ℕ) : Type 0 where

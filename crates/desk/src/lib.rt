@@ -1,4 +1,6 @@
 // The listing for the desk program, which is written in Rust: on numbers and bytes, two bytes a word, low byte first.
+#![tactic(auto)]
+
 mod words;
 
 ghost use Rattle.std.specs.Prelude.{◌≡◌, length};

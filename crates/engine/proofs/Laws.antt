@@ -16,11 +16,13 @@ use Rattle.semantics.specs.Definitions.Calls.{for_guess, for_atom, verdict_call,
 use Rattle.semantics.specs.Definitions.Calendar.{of_minute, changes_call}
 use Rattle.semantics.specs.Definitions.Query.{answer_by}
 use Rattle.semantics.specs.Definitions.Day.{of_day}
-use Rattle.semantics.specs.Theorems.Layout.{places_bytes}
+use Rattle.semantics.proofs.Theorems.Layout.{places_bytes}
 use Rattle.semantics.specs.Theorems.Returned.{fits_limited, short_limited}
-use Rattle.semantics.specs.Theorems.Calls.{GuessOf, for_guess_accepted, verdict_refused, verdict_is, sets-given, sets_refused}
-use Rattle.semantics.specs.Theorems.ListCall.{result-given, list_refused}
-use Rattle.semantics.specs.Theorems.QueryCall.{AtomOf, for_atom_accepted, query_refused, query_is}
+use Rattle.semantics.specs.Theorems.Calls.{GuessOf}
+use Rattle.semantics.proofs.Theorems.Calls.{for_guess_accepted, verdict_refused, verdict_is, sets-given, sets_refused}
+use Rattle.semantics.proofs.Theorems.ListCall.{result-given, list_refused}
+use Rattle.semantics.specs.Theorems.QueryCall.{AtomOf}
+use Rattle.semantics.proofs.Theorems.QueryCall.{for_atom_accepted, query_refused, query_is}
 use Rattle.guess.specs.declared.outline.Outline.{Outline}
 use Rattle.guess.specs.Programs.{setting_in, Outlines}
 use Rattle.verdict.specs.declared.Verdict.{Verdict as Answer}

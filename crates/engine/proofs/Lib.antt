@@ -2,3 +2,4 @@
 pub mod Laws
 pub mod Minutes
 pub mod Answered
+mod Front

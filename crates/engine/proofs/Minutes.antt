@@ -6,7 +6,7 @@ use lib.ListN.{length}
 use Rattle.semantics.specs.Definitions.Calendar.{minutes_of_change, changes_call}
 use Rattle.semantics.specs.Definitions.Returned.{accepted, refusal}
 use Rattle.semantics.specs.Theorems.Returned.{fits_limited, short_limited}
-use Rattle.semantics.specs.Theorems.CalendarCalls.{changes-given}
+use Rattle.semantics.proofs.Theorems.CalendarCalls.{changes-given}
 use Rattle.sheet.specs.declared.Contents.{Contents}
 use Rattle.calendar.specs.Entries.{entries_in}
 use Rattle.source.specs.declared.minute.Scheduled.{Scheduled}

@@ -6,10 +6,11 @@ use Rattle.semantics.specs.Definitions.Returned.{Returned, refusal, answer, afte
 use Rattle.semantics.specs.Definitions.Calls.{for_guess, verdict_call, belief_sets_call, records_need, list_call, query_call}
 use Rattle.semantics.specs.Definitions.Day.{of_day}
 use Rattle.semantics.specs.Theorems.Returned.{answer_refused}
-use Rattle.semantics.specs.Theorems.Calls.{for_guess_refused, verdict_refused, sets_refused}
-use Rattle.semantics.specs.Theorems.ListCall.{list_refused}
-use Rattle.semantics.specs.Theorems.QueryCall.{for_atom_refused, query_refused}
-use Rattle.semantics.specs.Theorems.DayCall.{DayDemand, day_demand}
+use Rattle.semantics.proofs.Theorems.Calls.{for_guess_refused, verdict_refused, sets_refused}
+use Rattle.semantics.proofs.Theorems.ListCall.{list_refused}
+use Rattle.semantics.proofs.Theorems.QueryCall.{for_atom_refused, query_refused}
+use Rattle.semantics.specs.Theorems.DayCall.{DayDemand}
+use Rattle.semantics.proofs.Theorems.DayCall.{day_demand}
 use Rattle.engine.specs.declared.Judged.{Judged}
 use Rattle.engine.specs.declared.Judged.TheVariants as judgements
 use Rattle.engine.specs.declared.Counted.{Counted}

@@ -8,12 +8,13 @@ use Rattle.semantics.specs.Definitions.Check.{unpaired, opened_two_sections, Num
 use Rattle.semantics.specs.Theorems.Places.{SheetRefusal}
 use Rattle.semantics.specs.Theorems.Layout.{IsBytes}
 use Rattle.semantics.specs.Theorems.PairCases.{BadPair, ExtraBytes, PairsRefuse}
-use Rattle.semantics.specs.Theorems.PairExact as pairs
-use Rattle.semantics.specs.Theorems.PairExact.{third_refused}
-use Rattle.semantics.specs.Theorems.TwoSections.{two_sections_short, last_0_check}
-use Rattle.semantics.specs.Theorems.Check.{LaidOut, check_exactly, laid_out_read, OverNegations, Refuses, opened_refuses, seven_over, check_refused, check_refuses}
-use Rattle.semantics.specs.Theorems.Following as following
-use Rattle.semantics.specs.Theorems.Following.{still_refused}
+use Rattle.semantics.proofs.Theorems.PairExact as pairs
+use Rattle.semantics.proofs.Theorems.PairExact.{third_refused}
+use Rattle.semantics.proofs.Theorems.TwoSections.{two_sections_short, last_0_check}
+use Rattle.semantics.specs.Theorems.Check.{LaidOut, OverNegations, Refuses}
+use Rattle.semantics.proofs.Theorems.Check.{check_exactly, laid_out_read, opened_refuses, seven_over, check_refused, check_refuses}
+use Rattle.semantics.proofs.Theorems.Following as following
+use Rattle.semantics.proofs.Theorems.Following.{still_refused}
 use Rattle.engine.specs.declared.Checked.{Checked}
 use Rattle.engine.specs.declared.Checked.TheVariants.{Accepted, Refused}
 use Rattle.engine.specs.Answers.{checked, checked_fixed}

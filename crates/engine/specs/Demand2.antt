@@ -9,9 +9,11 @@ use Rattle.semantics.specs.Definitions.Returned.{Returned, accepted, refusal, an
 use Rattle.semantics.specs.Definitions.Verdict.{belief_sets, known_in, possible_in, guess_found}
 use Rattle.semantics.specs.Definitions.Verdict as meant
 use Rattle.semantics.specs.Definitions.Calls.{for_guess, verdict_call, sets_into, belief_sets_call}
-use Rattle.semantics.specs.Theorems.Verdict.{Satisfied, Verifiable, found_exact, found_below, belief_below, dec_empty, empty_verdict, dec_unverifiable, other_verdict, SetsOf, sets_of, sets-only, Verified}
+use Rattle.semantics.specs.Theorems.Verdict.{Satisfied, Verifiable, SetsOf, Verified}
+use Rattle.semantics.proofs.Theorems.Verdict.{found_exact, found_below, belief_below, dec_empty, empty_verdict, dec_unverifiable, other_verdict, sets_of, sets-only}
 use Rattle.semantics.specs.Theorems.Returned.{fits_limited, short_limited, answer_accepted, answer_refused}
 use Rattle.semantics.specs.Theorems.Calls as calls
+use Rattle.semantics.proofs.Theorems.Calls as calls_proved
 use Rattle.engine.specs.declared.Judged.{Judged}
 use Rattle.engine.specs.declared.Judged.TheVariants as judgements
 use Rattle.engine.specs.declared.Counted.{Counted}
@@ -62,16 +64,16 @@ pub record SetsDemand (from : Returned Setting) (g : ℕ) (r : Counted) (before 
 -- by what the call ensures
 module _ (from : Returned Setting) (g : ℕ) (v : Judged) (answered : judged v ≡ verdict_call from g) where
   says : (known possible sets : ℕ) → v ≡ judgements.Verified known possible sets → (s : Setting) × calls.GuessOf from g s × Verified s g known possible sets
-  says known possible sets e = calls.verified_says from g known possible sets (sym answered ∙ ap judged e)
+  says known possible sets e = calls_proved.verified_says from g known possible sets (sym answered ∙ ap judged e)
 
   verdict_was : {u : meant.Verdict} → judged v ≡ accepted u → (s : Setting) × calls.GuessOf from g s × (meant.verdict s g ≡ u)
-  verdict_was {u} e = calls.is_verdict from g u (sym answered ∙ e)
+  verdict_was {u} e = calls_proved.is_verdict from g u (sym answered ∙ e)
 
   verdict-then : {s : Setting} {u : Judged} → calls.GuessOf from g s → accepted (meant.verdict s g) ≡ judged u → v ≡ u
-  verdict-then {s} {u} h e = judged_fixed v u (answered ∙ calls.verdict_is from g h ∙ e)
+  verdict-then {s} {u} h e = judged_fixed v u (answered ∙ calls_proved.verdict_is from g h ∙ e)
 
   refuses : {number place : ℕ} → for_guess from g ≡ refusal number place → v ≡ judgements.Refused number place
-  refuses e = judged_fixed v _ (answered ∙ (calls.verdict_refused from g _ _).1 e)
+  refuses e = judged_fixed v _ (answered ∙ (calls_proved.verdict_refused from g _ _).1 e)
 
   others : (found : ℕ) → v ≡ judgements.Other found
       → (s : Setting) × calls.GuessOf from g s × (((i : ℕ) × (i among belief_sets s g)) × (Verifiable s g → ⊥)) × (meant.verdict s g ≡ meant.other found)
@@ -101,7 +103,7 @@ module _ (from : Returned Setting) (g : ℕ) (v : Judged) (answered : judged v �
         known_in s (belief_sets s g),
         possible_in (belief_sets s g),
         length (belief_sets s g),
-        judged_fixed v (judgements.Verified _ _ _) (answered ∙ calls.verifiable_verified from g h m),
+        judged_fixed v (judgements.Verified _ _ _) (answered ∙ calls_proved.verifiable_verified from g h m),
       ),
     );
     verified_values = says;
@@ -116,8 +118,8 @@ module _ (from : Returned Setting) (g : ℕ) (v : Judged) (answered : judged v �
           (guess_found s (belief_sets s g), verdict-then h (ap accepted (other_verdict s g (is_true (dec_unverifiable s g h.below) n)))),
     );
     other_values = values;
-    refused_before = λ number place e. refuses ((calls.for_guess_refused from g number place).1 (inl e));
-    guess_refused = λ s e l. refuses ((calls.for_guess_refused from g 8 0).1 (inr (s, e, l, refl, refl)));
+    refused_before = λ number place e. refuses ((calls_proved.for_guess_refused from g number place).1 (inl e));
+    guess_refused = λ s e l. refuses ((calls_proved.for_guess_refused from g 8 0).1 (inr (s, e, l, refl, refl)));
   }
 
 -- by what the call ensures
@@ -128,16 +130,16 @@ module _ (from : Returned Setting) (g : ℕ) (r : Counted) (before after : List 
   answers {q} {u} d e = counted_fixed r u (counts ∙ ap (answer length) d ∙ e)
 
   given : {s : Setting} {w : List ℕ} → calls.GuessOf from g s → SetsOf s g w → belief_sets_call from g (length before) ≡ sets_into (length before) w
-  given h o = calls.sets-given from g (length before) h ∙ ap (sets_into (length before)) (sym (sets-only o))
+  given h o = calls_proved.sets-given from g (length before) h ∙ ap (sets_into (length before)) (sym (sets-only o))
 
   turned_back : {number place : ℕ} → for_guess from g ≡ refusal number place → r ≡ Refused number place
-  turned_back e = answers ((calls.sets_refused from g (length before) _ _).1 (inl e)) refl
+  turned_back e = answers ((calls_proved.sets_refused from g (length before) _ _).1 (inl e)) refl
 
   pub sets_demand : SetsDemand from g r before after
   sets_demand = record {
     sets-written = λ n e.
         let (w, d, long) = answer_accepted length (belief_sets_call from g (length before)) (sym counts ∙ ap counted e) in
-        let (s, h, same, fit) = calls.sets_say from g (length before) w d in
+        let (s, h, same, fit) = calls_proved.sets_say from g (length before) w d in
         let left = leaves ∙ ap (λ q. afterwards (λ z. z) q before) d in
         let first = ap (take n) left ∙ take_at w (drop (length w) before) n long in
         record {
@@ -148,8 +150,8 @@ module _ (from : Returned Setting) (g : ℕ) (r : Counted) (before after : List 
           fits = omega arith;
         };
     sets-fit = λ s h w o l. answers {q = accepted w} (given h o ∙ fits_limited _ (length before) _ w l) refl;
-    refused_before = λ number place e. turned_back ((calls.for_guess_refused from g number place).1 (inl e));
-    guess_refused = λ s e l. turned_back ((calls.for_guess_refused from g 8 0).1 (inr (s, e, l, refl, refl)));
+    refused_before = λ number place e. turned_back ((calls_proved.for_guess_refused from g number place).1 (inl e));
+    guess_refused = λ s e l. turned_back ((calls_proved.for_guess_refused from g 8 0).1 (inr (s, e, l, refl, refl)));
     sets_too_many = λ s h w o l. answers {q = refusal 9 (length w)} (given h o ∙ short_limited _ (length before) _ w l) refl;
     refused_keeps = λ number place e. leaves ∙ ap (λ q. afterwards (λ z. z) q before) (answer_refused length (belief_sets_call from g (length before)) (sym counts ∙ ap counted e));
   }

@@ -6,11 +6,13 @@ use Rattle.semantics.specs.Definitions.Returned.{Returned, accepted, refusal, an
 use Rattle.semantics.specs.Definitions.Listing.{Tally, listing, words}
 use Rattle.semantics.specs.Definitions.Calls.{Result, result_of, records_need, list_call, records_of}
 use Rattle.semantics.specs.Theorems.Returned.{fits_limited, short_limited, answer_accepted, answer_refused}
-use Rattle.semantics.specs.Theorems.Tally.{Number, TallyOf, is_tally}
+use Rattle.semantics.specs.Theorems.Tally.{Number, TallyOf}
+use Rattle.semantics.proofs.Theorems.Tally.{is_tally}
 use Rattle.semantics.specs.Theorems.WorldView.{WorldView}
-use Rattle.semantics.specs.Theorems.Listing.{views_of, listing_long, listing-many}
-use Rattle.semantics.specs.Theorems.Records.{RecordsOf, of_records, words_long}
-use Rattle.semantics.specs.Theorems.ListCall.{result-given, result_says, list_refused}
+use Rattle.semantics.proofs.Theorems.Listing.{views_of, listing_long, listing-many}
+use Rattle.semantics.specs.Theorems.Records.{RecordsOf}
+use Rattle.semantics.proofs.Theorems.Records.{of_records, words_long}
+use Rattle.semantics.proofs.Theorems.ListCall.{result-given, result_says, list_refused}
 use Rattle.engine.specs.declared.Listed.{Listed}
 use Rattle.engine.specs.declared.Listed.TheVariants.{Refused}
 use Rattle.engine.specs.Answers.{listed, listed_fixed}

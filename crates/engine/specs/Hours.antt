@@ -11,15 +11,19 @@ use Rattle.semantics.specs.Definitions.Check.{opened, of_sheet}
 use Rattle.semantics.specs.Definitions.Returned.{Returned, refusal, accepted, answer, afterwards}
 use Rattle.semantics.specs.Definitions.Calendar.{last_minute, most_entries, Entry, in_force, at_minute, minutes_of_change, of_minute, changes_call}
 use Rattle.semantics.specs.Theorems.Layout.{sheet_bytes}
-use Rattle.semantics.specs.Theorems.TwoSections.{two_sections_short}
-use Rattle.semantics.specs.Theorems.Check.{Refuses, opened_refuses}
+use Rattle.semantics.proofs.Theorems.TwoSections.{two_sections_short}
+use Rattle.semantics.specs.Theorems.Check.{Refuses}
+use Rattle.semantics.proofs.Theorems.Check.{opened_refuses}
 use Rattle.semantics.specs.Theorems.Returned.{fits_limited, short_limited, answer_accepted, answer_refused}
-use Rattle.semantics.specs.Theorems.InForce.{Holds, WhereHolds, dec_in_force_proper}
+use Rattle.semantics.specs.Theorems.InForce.{Holds, WhereHolds}
+use Rattle.semantics.proofs.Theorems.InForce.{dec_in_force_proper}
 use Rattle.semantics.specs.Theorems.CalendarCases.{CalendarRefuses, CalendarAccepts, calendar_decided}
 use Rattle.semantics.specs.Theorems.CalendarPlaces.{longest_calendar, refused_within}
-use Rattle.semantics.specs.Theorems.CalendarExact.{calendar-read, calendar_accepted_exactly, calendar_refused_exactly}
-use Rattle.semantics.specs.Theorems.Changes.{Changes, minute_listed, minutes_rise, few_minutes}
-use Rattle.semantics.specs.Theorems.CalendarCalls.{Both, TurnedAway, minute_refused, as_list, empty_calendar, same-between, same_over_close, changes-given, changes_say, changes_refused}
+use Rattle.semantics.proofs.Theorems.CalendarExact.{calendar-read, calendar_accepted_exactly, calendar_refused_exactly}
+use Rattle.semantics.specs.Theorems.Changes.{Changes}
+use Rattle.semantics.proofs.Theorems.Changes.{minute_listed, minutes_rise, few_minutes}
+use Rattle.semantics.specs.Theorems.CalendarCalls.{Both, TurnedAway}
+use Rattle.semantics.proofs.Theorems.CalendarCalls.{minute_refused, as_list, empty_calendar, same-between, same_over_close, changes-given, changes_say, changes_refused}
 use Rattle.engine.specs.declared.Listed.{Listed}
 use Rattle.engine.specs.declared.Listed.TheVariants as listings
 use Rattle.engine.specs.declared.Counted.{Counted}

@@ -7,10 +7,11 @@ use Rattle.semantics.specs.Definitions.Sheet.{Sheet}
 use Rattle.semantics.specs.Definitions.Check.{setting, opened, of_sheet}
 use Rattle.semantics.specs.Definitions.Day.{under, of_day}
 use Rattle.semantics.specs.Definitions.Verdict.{belief_sets}
-use Rattle.semantics.specs.Theorems.Verdict.{sets-only}
-use Rattle.semantics.specs.Theorems.Source.{sheet_accepted}
-use Rattle.semantics.specs.Theorems.DaySource.{masks_accepted}
-use Rattle.semantics.specs.Theorems.Opposites.{NeverBoth, never_both_under}
+use Rattle.semantics.proofs.Theorems.Verdict.{sets-only}
+use Rattle.semantics.proofs.Theorems.Source.{sheet_accepted}
+use Rattle.semantics.proofs.Theorems.DaySource.{masks_accepted}
+use Rattle.semantics.specs.Theorems.Opposites.{NeverBoth}
+use Rattle.semantics.proofs.Theorems.Opposites.{never_both_under}
 use Rattle.engine.specs.declared.Counted.{Counted}
 use Rattle.engine.specs.declared.Counted.TheVariants.{Accepted}
 use Rattle.engine.specs.Demand2.{SetsDemand}

@@ -6,8 +6,10 @@ use Rattle.semantics.specs.Definitions.Returned.{Returned, accepted, refusal}
 use Rattle.semantics.specs.Definitions.Query as asked
 use Rattle.semantics.specs.Definitions.Calls.{for_atom, query_call}
 use Rattle.semantics.specs.Theorems.WorldView.{SomeView, NoneVerifiable}
-use Rattle.semantics.specs.Theorems.Query.{KnownInAll, PossibleInNone, query-none, query_yes, query_no, query_open}
-use Rattle.semantics.specs.Theorems.QueryCall.{AtomOf, for_atom_refused, query_refused, query_is, is_query}
+use Rattle.semantics.specs.Theorems.Query.{KnownInAll, PossibleInNone}
+use Rattle.semantics.proofs.Theorems.Query.{query-none, query_yes, query_no, query_open}
+use Rattle.semantics.specs.Theorems.QueryCall.{AtomOf}
+use Rattle.semantics.proofs.Theorems.QueryCall.{for_atom_refused, query_refused, query_is, is_query}
 use Rattle.engine.specs.declared.Queried.{Queried}
 use Rattle.engine.specs.declared.Queried.TheVariants.{Yes, No, Open, None, Refused}
 use Rattle.engine.specs.Answers.{queried, queried_fixed}

@@ -1,5 +1,7 @@
 // The calls sold: bytes in, answers out. No call has a `requires`, and each contract is the whole answer and every lent word for every
 // input.
+#![tactic(auto)]
+
 mod in_order;
 mod lent;
 mod yes_no_open;
@@ -30,7 +32,7 @@ use verdict::{Verdict, belief_sets as belief_sets_on, verdict_on};
 use yes_no_open::yes_no_open;
 
 // What the check answers: the numbers of atoms, of rules and of negations, or a refusal by its number and place.
-#[derive(Drop)]
+#[derive(Clone, Copy)]
 pub enum Checked {
     Accepted {
         atoms: usize,
@@ -45,7 +47,7 @@ pub enum Checked {
 
 // What the verdict on a guess answers: it has no belief set; its belief sets find another guess; or it is verified, with the atoms that are
 // known, those that are possible, and the number of belief sets. Or a refusal by its number and place.
-#[derive(Drop)]
+#[derive(Clone, Copy)]
 pub enum Judged {
     Empty,
     Other {
@@ -63,7 +65,7 @@ pub enum Judged {
 }
 
 // How many belief sets or minutes were written, or a refusal by its number and place (for 9: how many there are).
-#[derive(Drop)]
+#[derive(Clone, Copy)]
 pub enum Counted {
     Accepted { count: usize },
     Refused { number: u8, place: usize },
@@ -71,7 +73,7 @@ pub enum Counted {
 
 // What the listing answers: how many guesses are views, covered, ruled, tested, empty and other. Or a refusal by its number and place (for 9:
 // the number of views).
-#[derive(Drop)]
+#[derive(Clone, Copy)]
 pub enum Listed {
     Accepted {
         views: usize,
@@ -89,7 +91,7 @@ pub enum Listed {
 
 // What the query of an atom answers: `None` where there is no world view; else whether the atom is known in every one, possible in none, or
 // neither. Or a refusal by its number and place.
-#[derive(Drop)]
+#[derive(Clone, Copy)]
 pub enum Queried {
     Yes,
     No,

@@ -12,7 +12,7 @@ use Rattle.semantics.specs.Definitions.Rules.{EpistemicRule, K, not_k, M, not_m}
 use Rattle.semantics.specs.Definitions.Sheet.{rule_of_masks}
 use Rattle.semantics.specs.Definitions.Setting.{Setting}
 use Rattle.semantics.specs.Words.{mask_in, masks_in, rules_in, word_stays}
-use Rattle.semantics.specs.Theorems.AtSet.{barred-found, asked-found}
+use Rattle.semantics.proofs.Theorems.AtSet.{barred-found, asked-found}
 use Rattle.guess.specs.declared.outline.Outline.{Outline}
 use Rattle.guess.specs.Programs.{unmasked_in, Outlines}
 use Rattle.guess.specs.Negations.{found_by}

@@ -2,7 +2,7 @@
 use Prim.Native.Nat.{ℕ, ◌+◌, ◌*◌, ◌≤◌, ◌<◌}
 use mathlib.Core.Path.{◌≡◌, refl, sym, ap, ap₂, ◌∙◌, subst}
 use mathlib.Core.Bool.{Bool, true, false, not, ◌&&◌}
-use mathlib.Core.List.{List, [], ◌∷◌, ◌++◌, map, map-append, append_nil}
+use mathlib.Core.List.{List, [], ◌∷◌, ◌++◌, map, map-append, append-nil}
 use mathlib.Core.Logic.{inl, inr, ⊎_elim}
 use native.Mathlib.Omega.{arith}
 use native.Mathlib.Numerals.{add-one}
@@ -16,7 +16,8 @@ use Rattle.semantics.specs.Definitions.Sheet.{rule_of_masks}
 use Rattle.semantics.specs.Definitions.Setting.{Setting}
 use Rattle.semantics.specs.Words.{masks_in, rules_in, rules-none, rules-more, among-rules, word_stays}
 use Rattle.semantics.specs.AtSet.{need, GatheredRule, gathers, gather_rule, gathered_rules, StableBy}
-use Rattle.semantics.specs.Theorems.AtSet.{dec_gathers, among-gathered, gathered_head, gathered_none, gathered-more, struck, Supports, unsupported}
+use Rattle.semantics.specs.Theorems.AtSet.{Supports}
+use Rattle.semantics.proofs.Theorems.AtSet.{dec_gathers, among-gathered, gathered_head, gathered_none, gathered-more, struck, unsupported}
 use Rattle.guess.specs.declared.outline.Outline.{Outline}
 use Rattle.guess.specs.Programs.{unmasked_in}
 use Rattle.gather.specs.declared.AtSet.{AtSet}
@@ -111,7 +112,7 @@ module _ (x : Outline) (words : List ℕ) (i : ℕ) where
     pub left_out : {b : Bool} → b ≡ gathers s i (rule_of j) → b ≡ false → Stand room n (j + 1)
     left_out answer told = record {
       few = omega (arith, w.few);
-      rules = w.rules ∙ sym (more j ∙ rw (sym answer ∙ told) (append_nil _));
+      rules = w.rules ∙ sym (more j ∙ rw (sym answer ∙ told) (append-nil _));
     }
 
   -- ---- the atoms that they support
@@ -132,7 +133,7 @@ module _ (x : Outline) (words : List ℕ) (i : ℕ) where
     }
 
     pub held_same : b ≡ false → Held atoms (j + 1)
-    held_same told = record { held = λ z m. h.held z (subst (λ l. z among l) (more j ∙ rw (sym answer ∙ told) (append_nil _)) m) }
+    held_same told = record { held = λ z m. h.held z (subst (λ l. z among l) (more j ∙ rw (sym answer ∙ told) (append-nil _)) m) }
 
   -- an atom of the set that none of them supports
   pub some_unsupported : {atoms j : ℕ} → j ≡ x.rules → Held atoms j → (i ⊆? atoms) ≡ false → (g : ℕ) → StableBy (at_set x words i) i g → ⊥

@@ -11,7 +11,7 @@ use sets::{full, minus};
 
 // Of a rule its head; its plain and "not not" atoms; its "not" atoms; its plain and K atoms; the negations of its K and "not M" literals, which bar it
 // where a guess has them; and those of its "not K" and M literals, which it asks for.
-#[derive(Drop)]
+#[derive(Clone, Copy)]
 pub struct Digest {
     pub head: u16,
     pub body: u16,

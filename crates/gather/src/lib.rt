@@ -1,4 +1,6 @@
 // The rules of a sheet at one set of atoms: those that a guess can switch on there, and for which guesses.
+#![tactic(auto)]
+
 pub mod digest;
 
 ghost use Rattle.std.specs.Prelude.{◌≡◌, not, ◌&&◌, ℕ, ◌+◌, ◌*◌, ◌≤◌, length, take};
@@ -14,7 +16,7 @@ use guess::outline::Outline;
 use sets::{has_and_lacks, meets, minus, size, subset};
 
 // What is gathered at a set: no guess makes it stable; or so many rules.
-#[derive(Drop)]
+#[derive(Clone, Copy)]
 pub enum Gathered {
     Fails,
     Rules(usize),
@@ -22,7 +24,7 @@ pub enum Gathered {
 
 // A rule that a guess can switch on at a set: its head within the set, its plain atoms, the negations that such a guess misses and those that it
 // holds.
-#[derive(Drop)]
+#[derive(Clone, Copy)]
 pub struct AtSet {
     pub head: u16,
     pub plain: u16,

@@ -2,7 +2,7 @@
 use Prim.Native.Nat.{ℕ, ◌+◌, ◌*◌, ◌≤◌}
 use mathlib.Core.Path.{◌≡◌, refl, sym, ap, ◌∙◌, subst}
 use mathlib.Core.Bool.{Bool, true, false, not}
-use mathlib.Core.List.{List, [], ◌∷◌, ◌++◌, map, map-append, append_nil}
+use mathlib.Core.List.{List, [], ◌∷◌, ◌++◌, map, map-append, append-nil}
 use mathlib.Core.Logic.{◌⊎◌, ⊎_elim}
 use native.Mathlib.Omega.{arith}
 use lib.ListN.{take}
@@ -55,7 +55,7 @@ module _ (u p : ℕ) where
       added told is = program-more after n ∙ rw (more, told, same-program, is)
 
       left_out : r ≡ false → program_in after n ≡ kept (rules_in words (j + 1))
-      left_out told = rw (more, told) (same-program ∙ sym (append_nil (kept (rules_in words j))))
+      left_out told = rw (more, told) (same-program ∙ sym (append-nil (kept (rules_in words j))))
 
       pub one_written : {m : ℕ} → (r ≡ true → rule_in after n ≡ reduced_by u p (masks_in words j))
           → ((r ≡ true) × (m ≡ n + 1)) ⊎ ((r ≡ false) × (m ≡ n)) → Written after m (j + 1)

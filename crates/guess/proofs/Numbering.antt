@@ -3,9 +3,9 @@ use Prim.Native.Nat.{ℕ, zero, suc, ◌+◌, ◌≤◌, ◌<◌}
 use mathlib.Core.Path.{◌≡◌, refl, sym, ap, ◌∙◌, subst}
 use mathlib.Core.Bool.{Bool, true, false, not, cond, ◌&&◌, ◌||◌}
 use mathlib.Core.List.Memᴰ
-use mathlib.Core.List.{List, [], ◌∷◌, ◌++◌, append_nil, append_assoc}
+use mathlib.Core.List.{List, [], ◌∷◌, ◌++◌, append-nil, append_assoc}
 use native.Mathlib.Omega.{arith}
-use native.Mathlib.Nat.{eq-or-lt_of_le, le_of_suc_le_suc}
+use native.Mathlib.Nat.{eq-or-lt_of_le, le_of_suc-le-suc}
 use mathlib.Core.Logic.{⊎_elim}
 use lib.ListN.{length, length-append}
 use lib.Seq.{get_or_at}
@@ -18,7 +18,8 @@ use Rattle.sets.specs.Members.{dec_∈, ∅-∪, set_of-suc}
 use Rattle.semantics.specs.Definitions.Rules.{EpistemicRule, Subjective, K, not_k, M, not_m}
 use Rattle.semantics.specs.Definitions.Guesses.{Negation, not_known, may_be, numbered, assumed, negations_of}
 use Rattle.semantics.specs.Definitions.Verdict.{found_has}
-use Rattle.semantics.specs.Theorems.Negations.{Mentioned, Appears, definition_3, negations_distinct, dec_assumed}
+use Rattle.semantics.specs.Theorems.Negations.{Mentioned, Appears}
+use Rattle.semantics.proofs.Theorems.Negations.{definition_3, negations_distinct, dec_assumed}
 use Rattle.guess.specs.Negations.{negations_in}
 
 -- ---- a negation of a known number, and one that is not there
@@ -72,10 +73,10 @@ module _ (k m : ℕ) where
   begins : (a n : ℕ) → a ≤ n → (rest : List Negation) × (negations_in n k m ≡ negations_in a k m ++ rest)
   begins a zero h =
       let e : a ≡ zero = omega arith in
-      ([], rw e (sym (append_nil _)))
+      ([], rw e (sym (append-nil _)))
   begins a (suc n) h = ⊎_elim
-      (λ e. ([], rw e (sym (append_nil _))))
-      (λ l. let (rest, e) = begins a n (le_of_suc_le_suc l) in
+      (λ e. ([], rw e (sym (append-nil _))))
+      (λ l. let (rest, e) = begins a n (le_of_suc-le-suc l) in
       (rest ++ on n, next n ∙ ap (λ z. z ++ on n) e ∙ append_assoc (negations_in a k m) rest (on n)))
       (eq-or-lt_of_le h)
 

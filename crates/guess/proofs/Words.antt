@@ -5,8 +5,8 @@ use mathlib.Core.List.{List}
 use mathlib.Core.Logic.{⊎_elim}
 use native.Mathlib.Omega.{arith}
 use native.Mathlib.Nat.{not-suc-le-zero}
-use lib.ListN.{length, take, get_or, set, length_set}
-use lib.Seq.{get_or_set_same, get_or_set_other, take_set_le}
+use lib.ListN.{length, take, get_or, set, length-set}
+use lib.Seq.{get_or-set_same, get_or-set_other, take-set-le}
 use Rattle.sets.specs.Decides.{decided, dec_eq}
 use Rattle.sets.specs.Lists.{map_up_to_same}
 use Rattle.sets.specs.Sets.{∅}
@@ -16,10 +16,10 @@ use Rattle.guess.specs.Acted.{Cleared}
 -- ---- word t of rule n is set
 module _ (words : List ℕ) (n t w : ℕ) (there : 4 * n + t < length words) where
   pub written : word_of (set words (4 * n + t) w) n t ≡ w
-  written = get_or_set_same words (4 * n + t) w 0 there
+  written = get_or-set_same words (4 * n + t) w 0 there
 
   pub others_stay : (i : ℕ) → (i ≡ t → ⊥) → word_of (set words (4 * n + t) w) n i ≡ word_of words n i
-  others_stay i f = get_or_set_other words (4 * n + t) (4 * n + i) w 0 (λ e. f (omega arith))
+  others_stay i f = get_or-set_other words (4 * n + t) (4 * n + i) w 0 (λ e. f (omega arith))
 
 -- ---- all four words are set to empty sets
 module _ (words : List ℕ) (n : ℕ) (there : 4 * n + 4 ≤ length words) where
@@ -30,12 +30,12 @@ module _ (words : List ℕ) (n : ℕ) (there : 4 * n + 4 ≤ length words) where
   emptied = set (set (set (set words at ∅) (at + 1) ∅) (at + 2) ∅) (at + 3) ∅
 
   pub emptied-length : length emptied ≡ length words
-  emptied-length = simp length_set
+  emptied-length = simp length-set
 
   pub emptied-before : take at emptied ≡ take at words
   emptied-before =
-      take_set_le at _ (at + 3) ∅ (omega arith) ∙ take_set_le at _ (at + 2) ∅ (omega arith)
-      ∙ take_set_le at _ (at + 1) ∅ (omega arith) ∙ take_set_le at words at ∅ (omega arith)
+      take-set-le at _ (at + 3) ∅ (omega arith) ∙ take-set-le at _ (at + 2) ∅ (omega arith)
+      ∙ take-set-le at _ (at + 1) ∅ (omega arith) ∙ take-set-le at words at ∅ (omega arith)
 
   -- the first j words of the rule are empty
   abbrev Empty : List ℕ → (j : ℕ) → Type 0
@@ -43,17 +43,17 @@ module _ (words : List ℕ) (n : ℕ) (there : 4 * n + 4 ≤ length words) where
 
   one_more : (l : List ℕ) (j k : ℕ) → k ≡ at + j → k < length l → Empty l j → Empty (set l k ∅) (suc j)
   one_more l j k q h f i m =
-      ⊎_elim (λ e. let z : at + i ≡ k = omega arith in rw z (get_or_set_same l k ∅ 0 h))
-      (λ d. get_or_set_other l k (at + i) ∅ 0 (λ e. d (omega arith)) ∙ f i (omega arith)) (decided (dec_eq i j))
+      ⊎_elim (λ e. let z : at + i ≡ k = omega arith in rw z (get_or-set_same l k ∅ 0 h))
+      (λ d. get_or-set_other l k (at + i) ∅ 0 (λ e. d (omega arith)) ∙ f i (omega arith)) (decided (dec_eq i j))
 
   pub emptied-cleared : Cleared emptied n
   emptied-cleared =
       let l₁ = set words at ∅ in
       let l₂ = set l₁ (at + 1) ∅ in
       let l₃ = set l₂ (at + 2) ∅ in
-      one_more l₃ 3 (at + 3) refl (simp length_set (omega arith))
-      (one_more l₂ 2 (at + 2) refl (simp length_set (omega arith))
-      (one_more l₁ 1 (at + 1) refl (simp length_set (omega arith))
+      one_more l₃ 3 (at + 3) refl (simp length-set (omega arith))
+      (one_more l₂ 2 (at + 2) refl (simp length-set (omega arith))
+      (one_more l₁ 1 (at + 1) refl (simp length-set (omega arith))
       (one_more words 0 at (omega arith) (omega arith) (λ i h. absurd (not-suc-le-zero h)))))
 
 -- ---- a program in words: its rules before n stand in the words before 4 * n

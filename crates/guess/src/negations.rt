@@ -6,7 +6,7 @@ use super::outline::Outline;
 use sets::{include, member};
 
 // The atoms a whose "not K a" is in a guess, and those whose "M a" is.
-#[derive(Drop)]
+#[derive(Clone, Copy)]
 pub struct Assumptions {
     pub unknown: u16,
     pub maybe: u16,

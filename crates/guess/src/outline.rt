@@ -8,7 +8,7 @@ ghost use Rattle.guess.specs.Programs.{WithinLimits, Outlines};
 use sets::size;
 
 // What is known of a program with K and M beside its rules, which stand in words, eight a rule.
-#[derive(Drop)]
+#[derive(Clone, Copy)]
 pub struct Outline {
     pub atoms: usize,
     pub rules: usize,

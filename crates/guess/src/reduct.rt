@@ -10,7 +10,7 @@ use sets::{meets, minus};
 
 // What is done to a mask of a rule: its literals, or those that are not removed, join one of the four masks of the reduct; or the rule is
 // deleted.
-#[derive(Drop)]
+#[derive(Clone, Copy)]
 pub enum Acted {
     Join(usize, u16),
     Delete,

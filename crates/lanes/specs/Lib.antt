@@ -3,11 +3,7 @@ pub mod Lanes
 pub mod Cube
 pub mod Planes
 pub mod Smaller
-pub mod Search
-pub mod Supported
 pub mod Stable
-pub mod Shared
 pub mod Noted
-pub mod Tried
 pub mod Step
 pub mod Summary

@@ -1,6 +1,6 @@
 -- A table of three words a number: known, possible and number of the sets taken in. Assumes nothing.
 use Rattle.std.specs.Prelude.{ℕ, ◌+◌, ◌-◌, ◌*◌, ◌/◌, ◌%◌, ◌≤◌, ◌<◌, ◌≡◌, refl, List, ◌↔◌, ◌⊎◌, length, get_or, set}
-use Rattle.std.proofs.Common.{sym, ap, ◌∙◌, subst, inl, inr, ⊎_elim, arith, length_set, get_or_set_same, get_or_set_other}
+use Rattle.std.proofs.Common.{sym, ap, ◌∙◌, subst, inl, inr, ⊎_elim, arith, length-set, get_or-set_same, get_or-set_other}
 use Rattle.sets.specs.Decides.{decided, dec_le}
 use Rattle.sets.specs.Sets.{◌∈◌, ◌⊆◌, ◌∩◌, ◌∪◌, ◌∖◌, single}
 use Rattle.sets.specs.Members.{dec_∈, ∈-∖, ∈-∅, ∈-single}
@@ -52,15 +52,15 @@ three : (t : List ℕ) (p x y z : ℕ) → p + 3 ≤ length t → let u = set (s
 three t p x y z l =
     let a = set t p x in
     let b = set a (p + 1) y in
-    let la = length_set t p x in
-    let lb = length_set a (p + 1) y in (
-      length_set b (p + 2) z ∙ lb ∙ la,
-      get_or_set_other b (p + 2) p z 0 (λ e. omega arith) ∙ get_or_set_other a (p + 1) p y 0 (λ e. omega arith) ∙ get_or_set_same t p x 0 (omega arith),
-      get_or_set_other b (p + 2) (p + 1) z 0 (λ e. omega arith) ∙ get_or_set_same a (p + 1) y 0 (omega arith),
-      get_or_set_same b (p + 2) z 0 (omega arith),
-      λ j d. get_or_set_other b (p + 2) j z 0 (λ e. ⊎_elim (λ k. omega arith) (λ k. omega arith) d)
-          ∙ get_or_set_other a (p + 1) j y 0 (λ e. ⊎_elim (λ k. omega arith) (λ k. omega arith) d)
-          ∙ get_or_set_other t p j x 0 (λ e. ⊎_elim (λ k. omega arith) (λ k. omega arith) d),
+    let la = length-set t p x in
+    let lb = length-set a (p + 1) y in (
+      length-set b (p + 2) z ∙ lb ∙ la,
+      get_or-set_other b (p + 2) p z 0 (λ e. omega arith) ∙ get_or-set_other a (p + 1) p y 0 (λ e. omega arith) ∙ get_or-set_same t p x 0 (omega arith),
+      get_or-set_other b (p + 2) (p + 1) z 0 (λ e. omega arith) ∙ get_or-set_same a (p + 1) y 0 (omega arith),
+      get_or-set_same b (p + 2) z 0 (omega arith),
+      λ j d. get_or-set_other b (p + 2) j z 0 (λ e. ⊎_elim (λ k. omega arith) (λ k. omega arith) d)
+          ∙ get_or-set_other a (p + 1) j y 0 (λ e. ⊎_elim (λ k. omega arith) (λ k. omega arith) d)
+          ∙ get_or-set_other t p j x 0 (λ e. ⊎_elim (λ k. omega arith) (λ k. omega arith) d),
     )
 
 pub stored : (t : List ℕ) (g i : ℕ) → 3 * g + 3 ≤ length t

@@ -1,10 +1,10 @@
--- A rule fails in a set; a set passes in a lane, where it is a model of the rules that are on there; some proper subset of i does. Assumes nothing.
-use Rattle.std.specs.Prelude.{ℕ, ◌+◌, ◌*◌, ◌<◌, not, ◌&&◌, List, get_or}
-use Rattle.std.proofs.Common.{not-suc-le-zero}
-use Rattle.sets.specs.Decides.{Decides, dec_iff, dec_and, dec_not}
-use Rattle.sets.specs.Sets.{◌∈◌, ◌⊆◌, ◌⊂◌, Meets, ◌⊆?◌, ◌meets?◌}
-use Rattle.sets.specs.Members.{dec_⊆, dec_meets}
-use Rattle.lanes.specs.Lanes.{Lanes, lanes_self, lanes_iff}
+-- The lanes in which some proper subset of i is a model of the rules that are on there. Assumes nothing.
+use Rattle.std.specs.Prelude.{ℕ, ◌+◌, ◌-◌, ◌*◌, ◌≤◌, ◌<◌, ◌≡◌, not, ◌&&◌, List, get_or}
+use Rattle.std.proofs.Common.{zero-le, subst, inl, inr, ⊎_elim, arith, not-suc-le-zero, below_more}
+use Rattle.sets.specs.Decides.{Decides, decided, dec_iff, dec_and, dec_not}
+use Rattle.sets.specs.Sets.{◌∈◌, ◌⊆◌, ◌⊂◌, Meets, ◌⊆?◌, ◌meets?◌, ◌∩◌, ◌∪◌, ◌∖◌, ∅}
+use Rattle.sets.specs.Members.{dec_∈, ∈-∖, dec_⊆, dec_meets, ∈-∅, ⊆_le, ⊂_less, ∩-⊆, none_between, next_less}
+use Rattle.lanes.specs.Lanes.{Lanes, lanes_self, lanes_iff, lanes_or, lanes_minus, lanes_none}
 
 -- rule r, the first of its four words its head, the second its plain atoms, fails in s: its plain atoms are within s, and its head is apart from s
 pub record Fails (rules : List ℕ) (r s : ℕ) : Type 0 where
@@ -24,14 +24,64 @@ module _ (rules on : List ℕ) where
   pub passes_none : {s x : ℕ} → Lanes (λ b. (b ∈ x) × Passes 0 b s) x
   passes_none = lanes_iff (λ b l. (λ m. (m, record { rule = λ r k. absurd (not-suc-le-zero k) }), λ p. p.0)) lanes_self
 
--- the heads of the first n rules are within i
-pub record HeadsWithin (rules : List ℕ) (n i : ℕ) : Type 0 where
-  pub rule : (r : ℕ) → r < n → get_or rules (4 * r) 0 ⊆ i
+  module _ (n s x : ℕ) {left : ℕ} (p : Lanes (λ b. (b ∈ x) × Passes n b s) left) where
+    -- one rule more
+    pub passes_fails : Fails rules n s → Lanes (λ b. (b ∈ x) × Passes (n + 1) b s) (left ∖ get_or on n 0)
+    passes_fails f =
+        lanes_iff (λ b l. (
+          λ q. (q.0.0, record { rule = below_more _ n q.0.1.rule (λ m _. q.1 m) }),
+          λ q. ((q.0, record { rule = λ r k. q.1.rule r (omega arith) }), λ m. q.1.rule n (omega arith) m f),
+        )) (lanes_minus p lanes_self)
 
--- in lane b, a proper subset of i that has every atom of j and no atom of out is a model of the rules that are on
-pub record Small (rules on : List ℕ) (n i j out b : ℕ) : Type 0 where
-  pub set : ℕ
-  pub from : j ⊆ set
-  pub within : set ⊂ i
-  pub apart : Meets set out → ⊥
-  pub passes : Passes rules on n b set
+    pub passes-holds : (Fails rules n s → ⊥) → Lanes (λ b. (b ∈ x) × Passes (n + 1) b s) left
+    passes-holds h =
+        lanes_iff (λ b l. (
+          λ q. (q.0, record { rule = below_more _ n q.1.rule (λ _. h) }),
+          λ q. (q.0, record { rule = λ r k. q.1.rule r (omega arith) }),
+        )) p
+
+    -- once no lane is left, none ever is
+    pub passes_ends : (m : ℕ) → n ≤ m → left ≡ 0 → Lanes (λ b. (b ∈ x) × Passes m b s) ∅
+    passes_ends m h e =
+        lanes_none (λ b l q. ∈-∅ (subst (λ z. b ∈ z) e ((p.lane l).1 (q.0, record { rule = λ r k. q.1.rule r (omega arith) }))))
+
+  -- a proper subset of i, from s on, that passes in lane b
+  pub record Passed (n i s b : ℕ) : Type 0 where
+    pub set : ℕ
+    pub within : set ⊂ i
+    pub from : s ≤ set
+    pub passes : Passes n b set
+
+  module _ (n i lanes : ℕ) where
+    pub found_none : Lanes (λ b. (b ∈ lanes) × Passed n i i b) ∅
+    found_none = lanes_none (λ b l q. absurd (omega (arith, ⊂_less q.1.within, q.1.from)))
+
+    pub found-more : (s : ℕ) {found more : ℕ} → 0 < s → s ⊆ i → Lanes (λ b. (b ∈ lanes) × Passed n i s b) found
+        → Lanes (λ b. (b ∈ lanes ∖ found) × Passes n b ((s - 1) ∩ i)) more → Lanes (λ b. (b ∈ lanes) × Passed n i ((s - 1) ∩ i) b) (found ∪ more)
+    found-more s {found} h k p q =
+        lanes_iff (λ b l. (
+          ⊎_elim (λ u. let t = u.1 in (u.0, record { set = t.set; within = t.within; from = omega (arith, t.from, next_less s i h); passes = t.passes }))
+              (λ u. (
+                ((∈-∖ b lanes found).0 u.0).0,
+                record {
+                  set = (s - 1) ∩ i;
+                  within = record { within = ∩-⊆ (s - 1) i; differ = λ e. omega (arith, next_less s i h, ⊆_le k) };
+                  from = omega arith;
+                  passes = u.1;
+                },
+              )),
+          λ u. let t = u.1 in
+              ⊎_elim (λ m. inl ((p.lane l).0 m)) (λ o.
+              ⊎_elim (λ e. inr ((∈-∖ b lanes found).1 (u.0, o), subst (Passes n b) e t.passes))
+              (λ f. inl (u.0, record { set = t.set; within = t.within; from = f; passes = t.passes })) (none_between k t.within.within t.from))
+              (decided (dec_∈ b found)),
+        )) (lanes_or p q)
+
+    -- at the end, or once every lane is found
+    pub found_ends : (s : ℕ) {found : ℕ} → lanes ∖ found ≡ 0 → Lanes (λ b. (b ∈ lanes) × Passed n i s b) found
+        → Lanes (λ b. (b ∈ lanes) × Passed n i 0 b) found
+    found_ends s {found} e p =
+        lanes_iff (λ b l. (
+          λ u. let t = u.1 in (u.0, record { set = t.set; within = t.within; from = zero-le; passes = t.passes }),
+          λ u. ⊎_elim (λ m. (p.lane l).0 m) (λ n. absurd (∈-∅ (subst (λ z. b ∈ z) e ((∈-∖ b lanes found).1 (u.0, n))))) (decided (dec_∈ b found)),
+        )) p

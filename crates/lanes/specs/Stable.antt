@@ -1,15 +1,14 @@
 -- Rules of four words, all of them with plain atoms in i: the head's atoms that are in i, the plain atoms, and two sets that decide for which numbers
 -- a rule is on. The numbers for which i is a model of the rules that are on, and no proper subset is. Assumes nothing.
 use Rattle.std.specs.Prelude.{ℕ, ◌+◌, ◌*◌, ◌<◌, ◌≡◌, List, length, get_or, set}
-use Rattle.std.proofs.Common.{subst, ⊎_elim, arith, not-suc-le-zero, get_or_set_same, get_or_set_other, below_more}
+use Rattle.std.proofs.Common.{zero-le, subst, ⊎_elim, arith, not-suc-le-zero, get_or-set_same, get_or-set_other, below_more}
 use Rattle.sets.specs.Decides.{decided, dec_eq}
-use Rattle.sets.specs.Sets.{◌∈◌, ◌⊂◌, ◌∖◌, ∅, single}
-use Rattle.sets.specs.Members.{∈-∅, ∅-⊆, dec_∈, ∖-⊂}
+use Rattle.sets.specs.Sets.{◌∈◌, ◌⊂◌, ◌∖◌, ∅}
+use Rattle.sets.specs.Members.{∈-∅}
 use Rattle.lanes.specs.Lanes.{Lanes, lanes_self, lanes_is, lanes_iff, lanes_minus, lanes_none}
 use Rattle.lanes.specs.Cube.{InCube}
 use Rattle.lanes.specs.Planes.{Word}
-use Rattle.lanes.specs.Smaller.{Fails, HeadsWithin, Small}
-use Rattle.lanes.specs.Supported.{Kept, less_passes}
+use Rattle.lanes.specs.Smaller.{Fails, Passed}
 
 -- rule r is on for g: g has no member of its third word, and every member of its fourth
 abbrev pub SwitchedOn : List ℕ → ℕ → ℕ → Type 0
@@ -53,38 +52,31 @@ on_none rules w x on = record { rule = λ k. absurd (not-suc-le-zero k) }
 pub on-more : {rules : List ℕ} {w x n y : ℕ} {on : List ℕ} → n < length on → LanesOn rules w x n on
     → Lanes (λ b. (b ∈ x) × SwitchedOn rules n (64 * w + b)) y → LanesOn rules w x (n + 1) (set on n y)
 on-more {n = n} {y = y} {on = on} h s q = record {
-  rule = λ {r} k. ⊎_elim (λ e. rw e (lanes_is (get_or_set_same on n y 0 h) q))
-      (λ e. lanes_is (get_or_set_other on n r y 0 e) (s.rule (omega arith))) (decided (dec_eq r n));
+  rule = λ {r} k. ⊎_elim (λ e. rw e (lanes_is (get_or-set_same on n y 0 h) q))
+      (λ e. lanes_is (get_or-set_other on n r y 0 e) (s.rule (omega arith))) (decided (dec_eq r n));
 }
 
--- ---- the tests together: no empty head, support, no smaller model
+-- ---- the two tests together
 pub stable_empty : (rules : List ℕ) (n i w lanes : ℕ) → lanes ≡ 0 → Lanes (λ b. (b ∈ lanes) × StableFor rules n i (64 * w + b)) ∅
 stable_empty rules n i w lanes e = lanes_none (λ b l u. ∈-∅ (subst (λ z. b ∈ z) e u.0))
 
 module _ (rules on : List ℕ) (n i w lanes : ℕ) {model : ℕ} (p : Lanes (λ b. (b ∈ lanes) × HeadsMeet rules n (64 * w + b)) model) where
+  pub stable-some : {small : ℕ} → LanesOn rules w model n on → Lanes (λ b. (b ∈ model) × Passed rules on n i 0 b) small
+      → Lanes (λ b. (b ∈ lanes) × StableFor rules n i (64 * w + b)) (model ∖ small)
+  stable-some s q =
+      lanes_iff (λ b l. (
+        λ u. let m = (p.lane l).1 u.0 in (
+          u.0.0,
+          record {
+            model = u.0.1;
+            minimal = λ j k f. u.1 (m, record { set = j; within = k; from = zero-le; passes = record { rule = λ r h o. f r h (((s.rule h).lane l).0 o).1 } });
+          },
+        ),
+        λ u. let m = (p.lane l).1 (u.0, u.1.model) in (
+          (u.0, u.1.model),
+          λ v. let t = v.1 in u.1.minimal t.set t.within (λ r h o. t.passes.rule r h (((s.rule h).lane l).1 (m, o))),
+        ),
+      )) (lanes_minus p q)
+
   pub stable-none : model ≡ 0 → Lanes (λ b. (b ∈ lanes) × StableFor rules n i (64 * w + b)) ∅
   stable-none e = lanes_none (λ b l u. ∈-∅ (subst (λ z. b ∈ z) e ((p.lane l).1 (u.0, u.1.model))))
-
-  module _ (heads : HeadsWithin rules n i) (s : LanesOn rules w model n on) {left : ℕ} (k : Kept rules on n i model left) where
-    -- in a lane that is not left the set without one atom is a model of the rules that are on
-    struck : {b : ℕ} → b < 64 → b ∈ model → (b ∈ left → ⊥) → StableFor rules n i (64 * w + b) → ⊥
-    struck {b} l m f t =
-        let (a, h, u) = k.struck m f in
-        t.minimal (i ∖ single a) (∖-⊂ h)
-        (λ r q o. (less_passes heads (λ r q o e. ((p.lane l).0 m).1.rule r q e (((s.rule q).lane l).0 o).1) u).rule r q (((s.rule q).lane l).1 (m, o)))
-
-    pub stable-some : {small : ℕ} → Lanes (λ b. (b ∈ left) × Small rules on n i ∅ ∅ b) small → Lanes (λ b. (b ∈ lanes) × StableFor rules n i (64 * w + b)) (left ∖ small)
-    stable-some q =
-        lanes_iff (λ b l. (
-          λ u. let m = k.within u.0 in let (h, d) = (p.lane l).0 m in (
-            h,
-            record {
-              model = d;
-              minimal = λ j z f. u.1 (u.0, record { set = j; from = ∅-⊆; within = z; apart = λ m. ∈-∅ m.right; passes = record { rule = λ r h o. f r h (((s.rule h).lane l).0 o).1 } });
-            },
-          ),
-          λ u. let m = (p.lane l).1 (u.0, u.1.model) in (
-            ⊎_elim (λ y. y) (λ y. absurd (struck l m y u.1)) (decided (dec_∈ b left)),
-            λ v. let t = v.1 in u.1.minimal t.set t.within (λ r h o. t.passes.rule r h (((s.rule h).lane l).1 (m, o))),
-          ),
-        )) (lanes_minus lanes_self q)

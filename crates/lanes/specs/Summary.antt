@@ -1,6 +1,6 @@
 -- What the table says of one number after the sets that are stable for it. Assumes nothing.
 use Rattle.std.specs.Prelude.{ℕ, ◌≡◌, refl, true, false, Bool, List, [], ◌∷◌, ◌++◌, ◌↔◌, length}
-use Rattle.std.proofs.Common.{sym, ap, ◌∙◌, append_nil, inl, inr, length-append}
+use Rattle.std.proofs.Common.{sym, ap, ◌∙◌, append-nil, inl, inr, length-append}
 use Rattle.sets.specs.Decides.{Decides}
 use Rattle.sets.specs.Lists.{◌among◌, only, all_snoc, among-append, here, foldl_snoc}
 use Rattle.sets.specs.Sets.{◌⊆◌, ◌∩◌, ◌∪◌, full, ⋂, ⋃}
@@ -30,7 +30,7 @@ module _ (n : ℕ) (need : ℕ → ℕ) where
     );
     entry = λ q. let (u, v) = f.0 q in t (u, y.yes refl, v (y.yes refl)) ∙ ap (with_set m) (s.entry u) ∙ sym (summary-more n m vs);
   }
-  stands_more {g} {m} vs {b = false} s y f t k = rw (append_nil vs) record {
+  stands_more {g} {m} vs {b = false} s y f t k = rw (append-nil vs) record {
     active = (λ q. s.active.0 (f.0 q).0, λ q. f.1 (s.active.1 q, λ z. absurd (y.no refl z)));
     entry = λ q. k (λ p. y.no refl p.1) ∙ s.entry (f.0 q).0;
   }

@@ -1,27 +1,23 @@
 // Sets of numbers, 64 a word, and a table with an entry for each number: one set of atoms after another is tried for all of them. `cube`
-// finds the numbers for which a rule is on; `supported`, `smaller` and `stable` those for which the set is stable, `shared` once for several words;
-// `noted` takes it into their entries.
+// finds the numbers for which a rule is on, `smaller` and `stable` those for which the set is stable, `noted` takes it into their entries.
+#![tactic(auto)]
+
 pub mod cube;
 pub mod noted;
 pub mod plane;
-pub mod shared;
 pub mod smaller;
 pub mod stable;
-pub mod supported;
 
 ghost use Rattle.std.specs.Prelude.{◌≡◌, ℕ, ◌+◌, ◌*◌, ◌≤◌, ◌<◌, length, get_or};
 ghost use Rattle.lanes.specs.Cube.{Table};
-ghost use Rattle.lanes.specs.Planes.{◌in-plane◌};
-ghost use Rattle.lanes.specs.Smaller.{HeadsWithin};
-ghost use Rattle.lanes.specs.Stable.{StableFor};
-ghost use Rattle.lanes.specs.Tried.{Tried};
+ghost use Rattle.lanes.specs.Planes.{◌in_plane◌};
+ghost use Rattle.lanes.specs.Step.{SetNoted};
 
 use noted::note_words;
-use shared::{relevant, share};
 use stable::find_stable;
 
-// Of the active numbers for which i is stable, those that lack something it needs leave, and the others take it in. Words that agree on what
-// decides which rules are on share one computation. What `on` and `stable` hold then is left open.
+// Of the active numbers for which i is stable, those that lack something it needs leave, and the others take it in. What `on` and `stable`
+// hold then is left open.
 pub fn note_rules(
     low: &[u64; 128],
     rules: &[u16],
@@ -35,13 +31,11 @@ pub fn note_rules(
 )
     requires { Table low.now × (4 * n ≤ length rules.now) × (n ≤ length on.old) × (length stable.old ≡ length active.old)
         × (length active.old ≤ 1024) × (192 * length active.old ≤ length table.old)
-        × ((g : ℕ) → g in-plane (λ x. x.now) active → get_or table.old (3 * g + 2) 0 < 65535) × HeadsWithin rules.now n i }
+        × ((g : ℕ) → g in_plane active.old → get_or table.old (3 * g + 2) 0 < 65535) }
     ensures on_len_unchanged { length on.new ≡ length on.old }
     ensures stable_len_unchanged { length stable.new ≡ length stable.old }
-    ensures tried { Tried (StableFor rules.now n i) i needed active.old table.old active.new table.new }
+    ensures set_noted { SetNoted rules.now n i needed active.old table.old active.new table.new }
 {
-    let parting = (relevant(rules, n) / 64) as usize;
-    share(active, parting, stable);
-    find_stable(low, rules, n, i, on, stable);
-    note_words(low, stable, parting, i, needed, active, table);
+    find_stable(low, rules, n, i, active, on, stable);
+    note_words(low, stable, i, needed, active, table);
 }

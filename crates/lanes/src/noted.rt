@@ -2,11 +2,9 @@
 ghost use Rattle.std.specs.Prelude.{◌≡◌, ℕ, ◌+◌, ◌*◌, ◌≤◌, ◌<◌, length, get_or};
 ghost use Rattle.sets.specs.Sets.{◌∈◌};
 ghost use Rattle.lanes.specs.Cube.{Table};
-ghost use Rattle.lanes.specs.Planes.{◌in-plane◌};
+ghost use Rattle.lanes.specs.Planes.{◌in_plane◌};
 ghost use Rattle.lanes.specs.Noted.{Noted, InWord};
-ghost use Rattle.lanes.specs.Shared.{server};
-ghost use Rattle.lanes.specs.Tried.{Tried};
-ghost use Rattle.lanes.specs.Step.{WordNoted};
+ghost use Rattle.lanes.specs.Step.{WordNoted, PlaneNoted};
 
 use super::cube::cube;
 use sets::wide::{first, minus};
@@ -63,24 +61,22 @@ pub fn note_word(
     note_lanes(table, w, these & having, i);
 }
 
-// i is stable for the numbers that are served by those of a plane: the active ones of them that lack something it needs leave, and the others
-// take it in.
+// i is stable for the numbers of a plane: the active ones of them that lack something it needs leave, and the others take it in.
 pub fn note_words(
     low: &[u64; 128],
     stable: &[u64],
-    parting: usize,
     i: u16,
     needed: u16,
     active: &mut [u64],
     table: &mut [u16],
 )
     requires { Table low.now × (length stable.now ≡ length active.old) × (length active.old ≤ 1024)
-        × (192 * length active.old ≤ length table.old) × ((g : ℕ) → g in-plane (λ x. x.now) active → get_or table.old (3 * g + 2) 0 < 65535) }
-    ensures { Tried (λ g. server parting g in-plane (λ x. x.now) stable.entry) i needed active.old table.old active.new table.new }
+        × (192 * length active.old ≤ length table.old) × ((g : ℕ) → g in_plane active.old → get_or table.old (3 * g + 2) 0 < 65535) }
+    ensures { PlaneNoted stable.now i needed active.old table.old active.new table.new }
 {
     let mut w = 0;
     while w < active.len() {
-        note_word(low, w, stable[w & parting], i, needed, active, table);
+        note_word(low, w, stable[w], i, needed, active, table);
         w += 1;
     }
 }

@@ -1,17 +1,16 @@
 // The lanes in which a proper subset of a set is a model of the rules that are on there. `rules` has four words a rule, the first its
 // head and the second its plain atoms; `on` has a word a rule, the lanes in which it is on.
-ghost use Rattle.std.specs.Prelude.{◌+◌, ◌*◌, ◌≤◌, length, get_or};
+ghost use Rattle.std.specs.Prelude.{◌+◌, ◌*◌, ◌≤◌, length};
 ghost use Rattle.sets.specs.Decides.{Decides};
-ghost use Rattle.sets.specs.Sets.{◌∈◌, ◌⊆◌, ◌∖◌, Meets};
+ghost use Rattle.sets.specs.Sets.{◌∈◌};
 ghost use Rattle.lanes.specs.Lanes.{Lanes};
-ghost use Rattle.lanes.specs.Smaller.{Fails, HeadsWithin, Small};
-ghost use Rattle.lanes.specs.Search.{Chosen};
+ghost use Rattle.lanes.specs.Smaller.{Fails, Passes, Passed};
 
 use sets::wide::minus;
-use sets::{first, meets, power, subset};
+use sets::{meets, subset};
 
 // Does rule r fail in s?
-fn fails(rules: &[u16], r: usize, s: u16) -> bool
+pub fn fails(rules: &[u16], r: usize, s: u16) -> bool
     requires { 4 * r + 4 ≤ length rules.now }
     ensures { Decides (Fails rules.now r s) result }
 {
@@ -20,47 +19,39 @@ fn fails(rules: &[u16], r: usize, s: u16) -> bool
     body & !head
 }
 
-// An atom of the head of rule r that is not in `out`, alone; the empty set where there is none.
-fn choose(rules: &[u16], r: usize, out: u16) -> u16
-    requires { 4 * r + 4 ≤ length rules.now }
-    ensures { Chosen (get_or rules.now (4 * r) 0 ∖ out) result }
+// The lanes, of these, in which no rule that is on fails in s.
+fn passing(rules: &[u16], n: usize, on: &[u64], s: u16, lanes: u64) -> u64
+    requires { (4 * n ≤ length rules.now) × (n ≤ length on.now) }
+    ensures { Lanes (λ b. (b ∈ lanes) × Passes rules.now on.now n b s) result }
 {
-    let rest = sets::minus(rules[4 * r], out);
-    if rest == 0 {
-        return 0;
-    }
-    power(first(rest) as u16)
-}
-
-// The lanes, of these, in which some proper subset of i that has every atom of j and no atom of `out` is a model of the rules that are on.
-// Where a rule that is on fails in j, an atom of its head is in the subset, or it is not.
-pub fn smaller(rules: &[u16], n: usize, on: &[u64], i: u16, j: u16, out: u16, lanes: u64) -> u64
-    requires { (4 * n ≤ length rules.now) × (n ≤ length on.now) × HeadsWithin rules.now n i × (j ⊆ i) × (Meets j out → ⊥) }
-    ensures { Lanes (λ b. (b ∈ lanes) × Small rules.now on.now n i j out b) result }
-{
-    if j == i {
-        return 0;
-    }
     let mut left = lanes;
-    let mut found = 0;
     let mut r = 0;
     while r < n {
-        if left == 0 {
-            return found;
-        }
-        let these = left & on[r];
-        if these != 0 {
-            if fails(rules, r, j) {
-                left = minus(left, these);
-                let a = choose(rules, r, out);
-                if a != 0 {
-                    let with = smaller(rules, n, on, i, j | a, out, these);
-                    let without = smaller(rules, n, on, i, j, out | a, minus(these, with));
-                    found = found | with | without;
-                }
+        if fails(rules, r, s) {
+            left = minus(left, on[r]);
+            if left == 0 {
+                return 0;
             }
         }
         r += 1;
     }
-    found | left
+    left
+}
+
+// The lanes, of these, in which some proper subset of i is a model of the rules that are on.
+pub fn smaller_sets(rules: &[u16], n: usize, on: &[u64], i: u16, lanes: u64) -> u64
+    requires { (4 * n ≤ length rules.now) × (n ≤ length on.now) }
+    ensures { Lanes (λ b. (b ∈ lanes) × Passed rules.now on.now n i 0 b) result }
+{
+    let mut found = 0;
+    let mut s = i;
+    while s > 0 {
+        s = (s - 1) & i;
+        let left = minus(lanes, found);
+        if left == 0 {
+            return found;
+        }
+        found = found | passing(rules, n, on, s, left);
+    }
+    found
 }

@@ -4,17 +4,15 @@ ghost use Rattle.std.specs.Prelude.{◌≡◌, ◌+◌, ◌*◌, ◌≤◌, leng
 ghost use Rattle.sets.specs.Sets.{◌∈◌};
 ghost use Rattle.lanes.specs.Lanes.{Lanes};
 ghost use Rattle.lanes.specs.Cube.{Table};
-ghost use Rattle.lanes.specs.Planes.{◌in-plane◌, Plane};
-ghost use Rattle.lanes.specs.Smaller.{HeadsWithin};
+ghost use Rattle.lanes.specs.Planes.{◌in_plane◌, Plane};
 ghost use Rattle.lanes.specs.Stable.{HeadsMeet, LanesOn, StableFor};
 
 use super::cube::cube;
-use super::smaller::smaller;
-use super::supported::supported;
+use super::smaller::smaller_sets;
 use sets::wide::minus;
 
 // The lanes, of these, of word w in which no rule that is on has an empty head.
-fn models(low: &[u64; 128], rules: &[u16], n: usize, w: u16, lanes: u64) -> u64
+pub fn models(low: &[u64; 128], rules: &[u16], n: usize, w: u16, lanes: u64) -> u64
     requires { Table low.now × (4 * n ≤ length rules.now) }
     ensures { Lanes (λ b. (b ∈ lanes) × HeadsMeet rules.now n (64 * w + b)) result }
 {
@@ -30,7 +28,7 @@ fn models(low: &[u64; 128], rules: &[u16], n: usize, w: u16, lanes: u64) -> u64
 }
 
 // For each rule the lanes, of these, of word w in which it is on.
-fn switch_on(low: &[u64; 128], rules: &[u16], n: usize, w: u16, lanes: u64, on: &mut [u64])
+pub fn switch_on(low: &[u64; 128], rules: &[u16], n: usize, w: u16, lanes: u64, on: &mut [u64])
     requires { Table low.now × (4 * n ≤ length rules.now) × (n ≤ length on.old) }
     ensures { LanesOn rules.now w lanes n on.new }
 {
@@ -52,7 +50,7 @@ pub fn stable_lanes(
     lanes: u64,
     on: &mut [u64],
 ) -> u64
-    requires { Table low.now × (4 * n ≤ length rules.now) × (n ≤ length on.old) × HeadsWithin rules.now n i }
+    requires { Table low.now × (4 * n ≤ length rules.now) × (n ≤ length on.old) }
     ensures { Lanes (λ b. (b ∈ lanes) × StableFor rules.now n i (64 * w + b)) result }
 {
     if lanes == 0 {
@@ -63,28 +61,29 @@ pub fn stable_lanes(
         return 0;
     }
     switch_on(low, rules, n, w, model, on);
-    let left = supported(rules, n, on, i, model);
-    let small = smaller(rules, n, on, i, 0, 0, left);
-    minus(left, small)
+    let small = smaller_sets(rules, n, on, i, model);
+    minus(model, small)
 }
 
-// Of the numbers of a plane those are left for which i is stable.
+// The active numbers for which i is stable.
 pub fn find_stable(
     low: &[u64; 128],
     rules: &[u16],
     n: usize,
     i: u16,
+    active: &[u64],
     on: &mut [u64],
-    plane: &mut [u64],
+    stable: &mut [u64],
 )
-    requires { Table low.now × (4 * n ≤ length rules.now) × (n ≤ length on.old) × (length plane.old ≤ 1024) × HeadsWithin rules.now n i }
+    requires { Table low.now × (4 * n ≤ length rules.now) × (n ≤ length on.old) × (length stable.old ≡ length active.now)
+        × (length active.now ≤ 1024) }
     ensures on_len_unchanged { length on.new ≡ length on.old }
-    ensures plane_len_unchanged { length plane.new ≡ length plane.old }
-    ensures plane { Plane (λ g. (g in-plane (λ x. x.now) plane.entry) × StableFor rules.now n i g) plane.new }
+    ensures stable_len_unchanged { length stable.new ≡ length stable.old }
+    ensures plane { Plane (λ g. (g in_plane active.now) × StableFor rules.now n i g) stable.new }
 {
     let mut w = 0;
-    while w < plane.len() {
-        plane[w] = stable_lanes(low, rules, n, i, w as u16, plane[w], on);
+    while w < active.len() {
+        stable[w] = stable_lanes(low, rules, n, i, w as u16, active[w], on);
         w += 1;
     }
 }

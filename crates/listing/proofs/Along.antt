@@ -1,7 +1,7 @@
 -- The walk along a list of guesses, entry by entry, and at its end. Assumes nothing.
 use Prim.Native.Nat.{ℕ, ◌+◌, ◌^◌, ◌≤◌, ◌<◌}
 use mathlib.Core.Path.{◌≡◌, refl, sym, ap, ◌∙◌, subst}
-use mathlib.Core.List.{List, [], ◌∷◌, ◌++◌, append_nil, foldl}
+use mathlib.Core.List.{List, [], ◌∷◌, ◌++◌, append-nil, foldl}
 use native.Mathlib.Numerals.{add-one}
 use native.Mathlib.Omega.{arith}
 use borrow.Author.Tests.{lt-ltb, le-ltb}
@@ -12,9 +12,10 @@ use Rattle.sets.specs.Lists.{keep, only, keep_append, keep_snoc, up_to}
 use Rattle.semantics.specs.Definitions.Setting.{Setting, k}
 use Rattle.semantics.specs.Definitions.Order.{members_below}
 use Rattle.semantics.specs.Walk.{Walked, start, outcome, walk, advance}
-use Rattle.semantics.specs.Theorems.Order.{Enumerates, enumerates_long}
+use Rattle.semantics.specs.Theorems.Order.{Enumerates}
+use Rattle.semantics.proofs.Theorems.Order.{enumerates_long}
 use Rattle.semantics.specs.Theorems.Tally.{AtMost}
-use Rattle.semantics.specs.Theorems.Walk.{walk_more, walk_is}
+use Rattle.semantics.proofs.Theorems.Walk.{walk_more, walk_is}
 use Rattle.records.specs.Records.{views_in}
 use Rattle.listing.specs.Walks.{ListingAlong}
 use Rattle.listing.proofs.Steps.{one_at_most}
@@ -38,7 +39,7 @@ module _ (n : ℕ) (l : List ℕ) (i : ℕ) (h : i < length l) where
   passed_guess b = passed-more ∙ rw (lt-ltb g (2 ^ n) b)
 
   passed_over : 2 ^ n ≤ g → passed n l (i + 1) ≡ passed n l i
-  passed_over b = passed-more ∙ rw (le-ltb g (2 ^ n) b) (append_nil (passed n l i))
+  passed_over b = passed-more ∙ rw (le-ltb g (2 ^ n) b) (append-nil (passed n l i))
 
 -- ---- the walk over them
 pub along_first : (s : Setting) (n : ℕ) (l ws : List ℕ) → record { met = views_in ws 0; tally = start.tally } ≡ walk s (passed n l 0)

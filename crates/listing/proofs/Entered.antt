@@ -17,14 +17,14 @@ use Rattle.semantics.specs.Definitions.Pass.{having, verdict_from}
 use Rattle.semantics.specs.Definitions.Day.{day_constraints}
 use Rattle.semantics.specs.AtSet.{need}
 use Rattle.semantics.specs.Walk.{Outcome, Ruled, Empty, Other, IsView, judged_as, outcome_by}
-use Rattle.semantics.specs.Theorems.Need.{lacks_other_added, judged_by_summary}
+use Rattle.semantics.proofs.Theorems.Need.{lacks_other_added, judged_by_summary}
 use Rattle.guess.specs.declared.outline.Outline.{Outline}
 use Rattle.guess.specs.Programs.{unmasked_in, setting_in, Outlines}
 use Rattle.guess.specs.Negations.{negations_by, found_by}
 use Rattle.guess.specs.Numbered.{negations_by_lem}
-use Rattle.lanes.specs.Planes.{◌in-plane◌}
+use Rattle.lanes.specs.Planes.{◌in_plane◌}
 use Rattle.lanes.specs.Noted.{Entry}
-use Rattle.table.specs.Tables.{Tabled}
+use Rattle.verdicts.specs.Tables.{Tabled}
 use Rattle.records.specs.Outcomes.{ExaminedAs}
 
 -- ---- by an entry
@@ -50,14 +50,14 @@ module _ {x : Outline} {words free active table : List ℕ} (o : Outlines x word
   within = omega (arith, t.wide)
 
   -- not among the free ones
-  pub examined_ruled : (g in-plane free → ⊥) → ExaminedAs s g Ruled
+  pub examined_ruled : (g in_plane free → ⊥) → ExaminedAs s g Ruled
   examined_ruled n = go (contradicted s g) refl
     where
       go : (b : _) → contradicted s g ≡ b → Ruled ≡ outcome_by g false b (verdict s g)
       go true e = refl
       go false e = absurd (n ((t.free_are.number within).1 (record { guess = h; holds = e })))
 
-  module _ (f : g in-plane free) where
+  module _ (f : g in_plane free) where
     free_is : contradicted s g ≡ false
     free_is = ((t.free_are.number within).0 f).holds
 
@@ -65,7 +65,7 @@ module _ {x : Outline} {words free active table : List ℕ} (o : Outlines x word
     examined e = e ∙ ap (λ b. outcome_by g false b (verdict s g)) (sym free_is)
 
     -- it lacks what one of its belief sets needs
-    pub examined_other : (g in-plane active → ⊥) → ExaminedAs s g Other
+    pub examined_other : (g in_plane active → ⊥) → ExaminedAs s g Other
     examined_other n =
         let w = belief_sets s g in
         let lacks = dec_some (λ i. not (need (unmasked_in x words) i ⊆? g)) (λ i. need (unmasked_in x words) i ⊆ g → ⊥) w (λ i _. dec_not (dec_⊆ (need (unmasked_in x words) i) g)) in
@@ -75,7 +75,7 @@ module _ {x : Outline} {words free active table : List ℕ} (o : Outlines x word
         (decided lacks))
 
     -- by its entry
-    pub examined_entry : g in-plane active → {a : Outcome} → a ≡ by_entry x g (get_or table (3 * g) 0) (get_or table (3 * g + 1) 0) (get_or table (3 * g + 2) 0) → ExaminedAs s g a
+    pub examined_entry : g in_plane active → {a : Outcome} → a ≡ by_entry x g (get_or table (3 * g) 0) (get_or table (3 * g + 1) 0) (get_or table (3 * g + 2) 0) → ExaminedAs s g a
     examined_entry m e =
         examined (e ∙ ap (λ (y : Entry). judged_as g (verdict_from (negations_by x) (having y.known y.possible y.number 0) g)) (t.filled.entries within m)
         ∙ ap (λ ns. judged_as g (verdict_from ns (having (⋂ x.atoms w) (⋃ w) (length w) 0) g)) (negations_by_lem o) ∙ sym (judged_by_summary s g 0))

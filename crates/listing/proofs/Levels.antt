@@ -3,7 +3,7 @@ use Prim.Native.Nat.{ℕ, ◌*◌, ◌≤◌, ◌<◌}
 use mathlib.Core.Path.{◌≡◌, sym, ap, subst}
 use mathlib.Core.Bool.{Bool, true, false}
 use mathlib.Core.List.Memᴰ
-use mathlib.Core.List.{List, [], ◌∷◌, ◌++◌, append_nil, foldl}
+use mathlib.Core.List.{List, [], ◌∷◌, ◌++◌, append-nil, foldl}
 use mathlib.Core.Logic.{◌⊎◌, inl, inr, ⊎_elim}
 use native.Mathlib.Omega.{arith}
 use lib.ListN.{get_or}
@@ -39,10 +39,10 @@ added met g c r v m = ⊎_elim inl (λ n. inr (own c r v n)) ((among-append met)
 
 still_falling : (met : List View) (g : ℕ) (c r : Bool) (v : Verdict) → Falling met → ((w : View) → w among met → size g ≤ size w.guess)
     → Falling (met ++ views_by (outcome_by g c r v))
-still_falling met g true r v p h = subst Falling (sym (append_nil met)) p
-still_falling met g false true v p h = subst Falling (sym (append_nil met)) p
-still_falling met g false false empty p h = subst Falling (sym (append_nil met)) p
-still_falling met g false false (other found) p h = subst Falling (sym (append_nil met)) p
+still_falling met g true r v p h = subst Falling (sym (append-nil met)) p
+still_falling met g false true v p h = subst Falling (sym (append-nil met)) p
+still_falling met g false false empty p h = subst Falling (sym (append-nil met)) p
+still_falling met g false false (other found) p h = subst Falling (sym (append-nil met)) p
 still_falling met g false false (verified known possible sets) p h = pairwise_snoc _ met _ p h
 
 module _ (s : Setting) where

@@ -6,3 +6,4 @@ pub mod Along
 pub mod Levels
 pub mod Reaching
 pub mod Entered
+mod RestLoop

@@ -14,11 +14,11 @@ use Rattle.sets.specs.Lists.{keep, keep_cons}
 use Rattle.semantics.specs.Definitions.Setting.{k}
 use Rattle.semantics.specs.Definitions.Check.{most_negations}
 use Rattle.semantics.specs.Definitions.Order.{members_below}
-use Rattle.semantics.specs.Definitions.Listing.{tested}
 use Rattle.semantics.specs.Walk.{records_room, Walked, walk}
 use Rattle.semantics.specs.Theorems.Order.{Enumerates}
 use Rattle.semantics.specs.Theorems.Tally.{AtMost}
-use Rattle.semantics.specs.Theorems.Tests.{StandsAt, stands_end, stands_waiting}
+use Rattle.semantics.specs.Theorems.Tests.{StandsAt}
+use Rattle.semantics.proofs.Theorems.Tests.{stands_end, stands_waiting}
 use Rattle.guess.specs.declared.outline.Outline.{Outline}
 use Rattle.guess.specs.Programs.{setting_in, Outlines}
 use Rattle.records.specs.declared.outcome.Tally.{Tally}

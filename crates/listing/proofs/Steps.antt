@@ -2,7 +2,7 @@
 use Prim.Native.Nat.{ℕ, ◌+◌, ◌*◌, ◌≤◌}
 use mathlib.Core.Path.{◌≡◌, sym, ap, ◌∙◌}
 use mathlib.Core.Bool.{true, false}
-use mathlib.Core.List.{List, [], ◌++◌, append_nil}
+use mathlib.Core.List.{List, [], ◌++◌, append-nil}
 use native.Mathlib.Omega.{arith}
 use lib.ListN.{length, take, drop, take-append-drop}
 use Rattle.sets.specs.Lists.{some, flat}
@@ -59,10 +59,10 @@ words_few (IsView v) = omega arith
 views_noted : (ws : List ℕ) (t : Tally) (o : Outcome) → 4 * t.views ≤ length ws
     → views_in (noted (4 * t.views) o ws) (counted_by t o).views ≡ views_in ws t.views ++ views_by o
 unfolding flat
-views_noted ws t Covered h = ap (λ z. views_in z t.views) (nothing (4 * t.views) ws) ∙ sym (append_nil _)
-views_noted ws t Ruled h = ap (λ z. views_in z t.views) (nothing (4 * t.views) ws) ∙ sym (append_nil _)
-views_noted ws t Empty h = ap (λ z. views_in z t.views) (nothing (4 * t.views) ws) ∙ sym (append_nil _)
-views_noted ws t Other h = ap (λ z. views_in z t.views) (nothing (4 * t.views) ws) ∙ sym (append_nil _)
+views_noted ws t Covered h = ap (λ z. views_in z t.views) (nothing (4 * t.views) ws) ∙ sym (append-nil _)
+views_noted ws t Ruled h = ap (λ z. views_in z t.views) (nothing (4 * t.views) ws) ∙ sym (append-nil _)
+views_noted ws t Empty h = ap (λ z. views_in z t.views) (nothing (4 * t.views) ws) ∙ sym (append-nil _)
+views_noted ws t Other h = ap (λ z. views_in z t.views) (nothing (4 * t.views) ws) ∙ sym (append-nil _)
 views_noted ws t (IsView v) h = views_more ws t.views v h
 
 -- ---- the whole step: the counts r and the records `after`, by what g counts as

@@ -4,7 +4,7 @@ ghost use Rattle.semantics.specs.Definitions.Pass.{having, verdict_from};
 ghost use Rattle.semantics.specs.Walk.{judged_as};
 ghost use Rattle.guess.specs.Programs.{setting_in, Outlines};
 ghost use Rattle.guess.specs.Negations.{Few, negations_by};
-ghost use Rattle.table.specs.Tables.{Tabled};
+ghost use Rattle.verdicts.specs.Tables.{Tabled};
 ghost use Rattle.records.specs.Outcomes.{outcome_from, ExaminedAs};
 
 use guess::negations::found;

@@ -1,4 +1,6 @@
 // The listing: the walk along a list of guesses, which writes the records of the world views and makes the six counts.
+#![tactic(auto)]
+
 mod entries;
 pub mod paused;
 mod rest;

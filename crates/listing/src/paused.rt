@@ -22,7 +22,7 @@ use sets::power;
 
 // How many entries of the order are passed, and the six counts; whether the next guess is known to be one that is tested, and then how many
 // rules its reduct has.
-#[derive(Drop)]
+#[derive(Clone, Copy)]
 pub struct Paused {
     pub at: usize,
     pub tally: Tally,

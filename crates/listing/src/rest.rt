@@ -6,7 +6,7 @@ ghost use Rattle.semantics.specs.Walk.{records_room, walk, advance as advanceIn}
 ghost use Rattle.semantics.specs.Theorems.Order.{Enumerates};
 ghost use Rattle.semantics.specs.Theorems.Tally.{AtMost};
 ghost use Rattle.guess.specs.Programs.{setting_in, Outlines};
-ghost use Rattle.table.specs.Tables.{Tabled};
+ghost use Rattle.verdicts.specs.Tables.{Tabled};
 ghost use Rattle.records.specs.Records.{LargerFirst};
 ghost use Rattle.records.specs.Outcomes.{tally_from};
 ghost use Rattle.listing.specs.Walks.{walked_in};

@@ -14,7 +14,7 @@ use super::rest::rest;
 use guess::outline::Outline;
 use records::outcome::Tally;
 use sets::power;
-use table::judge_all;
+use verdicts::judge_all;
 
 // As many words, at most 64, as have a lane for each guess.
 fn plane_words(negations: usize) -> usize

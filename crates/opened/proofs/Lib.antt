@@ -1,3 +1,2 @@
--- What several proofs cite: what the walks of functions over an opened sheet share, and rules and pairs as they are written in words.
-pub mod Held
+-- What several proofs cite: rules and pairs as they are written in words.
 pub mod Loaded

@@ -2,12 +2,12 @@
 use Prim.Native.Nat.{ℕ, suc, ◌+◌, ◌*◌, ◌≤◌, ◌<◌}
 use mathlib.Core.Bool.{Bool, true, false}
 use mathlib.Core.Path.{◌≡◌, refl, sym, ap, ap₂, ◌∙◌, subst}
-use mathlib.Core.List.{List, [], ◌∷◌, ◌++◌, map, map-append, append_nil, append_assoc}
+use mathlib.Core.List.{List, [], ◌∷◌, ◌++◌, map, map-append, append-nil, append_assoc}
 use native.Mathlib.Numerals.{add-one}
 use native.Mathlib.Omega.{arith}
 use borrow.Author.Count.{below_more}
 use lib.ListN.{length, get_or, take, set}
-use lib.Seq.{get_or_set_same, get_or_set_other}
+use lib.Seq.{get_or-set_same, get_or-set_other}
 use Rattle.sets.specs.Lists.{keep, only, keep_snoc, map_keep_same, up_to, among-up_to, map_up_to_same}
 use Rattle.sets.specs.Sets.{◌∈?◌, ◌∪◌, single}
 use Rattle.semantics.specs.Definitions.Reading.{field}
@@ -15,10 +15,11 @@ use Rattle.semantics.specs.Definitions.Sheet.{Opposites, Sheet, byte_at, pair_fr
 use Rattle.semantics.specs.Definitions.Check.{opposed, opened}
 use Rattle.semantics.specs.Words.{eight_masks, pairs_written, word_stays, mask_in, masks_in, rules_in, rules-none, rules-more}
 use Rattle.semantics.specs.Fields.{rule_from, rules_from, pairs_from}
-use Rattle.semantics.specs.Theorems.Fields.{rules_from-more, pairs_from-more}
-use Rattle.semantics.specs.Theorems.Accepted.{accepted_read, accepted_lies, rule_lies}
-use Rattle.semantics.specs.Theorems.Pairs.{Disjoint, bytes-atoms}
-use Rattle.semantics.specs.Theorems.Layout.{accepted_fits}
+use Rattle.semantics.proofs.Theorems.Fields.{rules_from-more, pairs_from-more}
+use Rattle.semantics.proofs.Theorems.Accepted.{accepted_read, accepted_lies, rule_lies}
+use Rattle.semantics.specs.Theorems.Pairs.{Disjoint}
+use Rattle.semantics.proofs.Theorems.Pairs.{bytes-atoms}
+use Rattle.semantics.proofs.Theorems.Layout.{accepted_fits}
 use Rattle.sheet.specs.declared.Contents.{Contents}
 use Rattle.sheet.specs.Opened.{contents, Holds}
 use Rattle.opened.specs.Fetched.{RulesBegin, remembered}
@@ -33,8 +34,8 @@ module _ (mask : ℕ → ℕ) (n : ℕ) where
     pub one-mask : {w : ℕ} → w ≡ mask i → 8 * n + i < length out → MasksLoaded (set out (8 * n + i) w) (i + 1)
     one-mask {w} e h =
         below_more (λ j. mask_in (set out (8 * n + i) w) n j ≡ mask j) i
-        (λ j l. get_or_set_other out (8 * n + i) (8 * n + j) w 0 (λ z. omega arith) ∙ loaded j l)
-        (get_or_set_same out (8 * n + i) w 0 h ∙ e)
+        (λ j l. get_or-set_other out (8 * n + i) (8 * n + j) w 0 (λ z. omega arith) ∙ loaded j l)
+        (get_or-set_same out (8 * n + i) w 0 h ∙ e)
 
     pub all_masks : 8 ≤ i → masks_in out n ≡ map mask (up_to 8)
     all_masks h = map_up_to_same (mask_in out n) mask 8 (λ j l. loaded j (omega arith))
@@ -117,7 +118,7 @@ module _ (s : List ℕ) (from n : ℕ) (before : List ℕ) where
   unfolding up_to
   no_pair =
       let z : n + 0 ≡ n = omega arith in
-      rw z (sym (append_nil (rules_in before n)))
+      rw z (sym (append-nil (rules_in before n)))
 
   module _ (out : List ℕ) (i : ℕ) (loaded : PairsLoaded out i) where
     pub one-pair : (after : List ℕ) → take (8 * (n + i)) after ≡ take (8 * (n + i)) out → {a b : ℕ} → a ≡ byte_at s (from + 2 * i) → b ≡ byte_at s (from + 2 * i + 1)

@@ -6,7 +6,7 @@ use Rattle.semantics.specs.Definitions.Reading.{field}
 use Rattle.semantics.specs.Definitions.Sheet.{Sheet, longest_sheet, most_rules}
 use Rattle.semantics.specs.Definitions.Check.{opened}
 use Rattle.semantics.specs.Fields.{rule_from}
-use Rattle.semantics.specs.Theorems.Accepted.{accepted_read, accepted_lies, rule_lies}
+use Rattle.semantics.proofs.Theorems.Accepted.{accepted_read, accepted_lies, rule_lies}
 use Rattle.opened.specs.declared.Fetched.{Fetched}
 use Rattle.opened.specs.declared.Fetched.TheVariants.{Rule, NoRule}
 

@@ -1,4 +1,6 @@
 // An accepted sheet, opened: its rules by number, and its rules and pairs in words.
+#![tactic(auto)]
+
 mod opened_sheet;
 mod words;
 
@@ -8,7 +10,7 @@ use opened_sheet::{opened_at, rule_of};
 pub use words::{load, load_only};
 
 // What fetching a rule answers.
-#[derive(Drop)]
+#[derive(Clone, Copy)]
 pub enum Fetched {
     // the place of its first byte
     Rule { place: usize },

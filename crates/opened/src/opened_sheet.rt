@@ -6,7 +6,7 @@ ghost use Rattle.opened.specs.Fetched.{fetched, RulesBegin, RuleByNumber};
 use super::Fetched;
 
 // It refers to the lent bytes and remembers where the rules begin, and how many there are.
-#[derive(Drop)]
+#[derive(Clone, Copy)]
 pub struct OpenedSheet<'a> {
     pub bytes: &'a [u8],
     pub rules_at: usize,

@@ -1,22 +1,11 @@
--- The constant list is the order, and its members below 2^k are the order of the guesses of k negations. Assumes nothing.
-use Rattle.std.specs.Prelude.{ℕ, ◌≤◌, ◌≡◌, List, T}
+-- A constant list that is the order: its members below 2^k are the order of the guesses of k negations. That the list of the code is the order: `proofs/Ordered.antt`.
+-- Assumes nothing.
+use Rattle.std.specs.Prelude.{ℕ, ◌≤◌, ◌≡◌, List}
 use Rattle.std.proofs.Common.{sym, ap, ◌∙◌, subst}
-use Rattle.std.specs.Int.Count.{ones_in}
-use Rattle.sets.specs.Decides.{passed}
-use Rattle.sets.specs.Lists.{every}
-use Rattle.sets.specs.Pairwise.{neighbours}
 use Rattle.semantics.specs.Definitions.Order.{order, members_below}
-use Rattle.semantics.specs.Theorems.Order.{Enumerates, order_enumerates, order-members}
-use Rattle.order.specs.Test.{in_order, dec_order}
-use Rattle.order.specs.Table.{table_width, table}
-
--- computed, entry by entry
-table-passes : T (in_order table_width table)
-unfolding in_order table every neighbours ones_in
-table-passes = tt
-
-pub table_is : table ≡ order table_width
-table_is = passed (dec_order table_width table) table-passes
+use Rattle.semantics.specs.Theorems.Order.{Enumerates}
+use Rattle.semantics.proofs.Theorems.Order.{order_enumerates, order-members}
+use Rattle.order.specs.Table.{table_width}
 
 -- the constant list l, as the code has it, for k negations
 module _ {l : List ℕ} (is : l ≡ order table_width) {k : ℕ} (few : k ≤ table_width) where

@@ -6,7 +6,8 @@ use Rattle.sets.specs.Lists.{every, dec_every}
 use Rattle.sets.specs.Pairwise.{neighbours, dec_neighbours}
 use Rattle.sets.specs.Size.{size_in}
 use Rattle.semantics.specs.Definitions.Order.{order}
-use Rattle.semantics.specs.Theorems.Order.{Before, before_trans, order-counted}
+use Rattle.semantics.specs.Theorems.Order.{Before}
+use Rattle.semantics.proofs.Theorems.Order.{before_trans, order-counted}
 
 -- "size falling and then number rising": g comes before h, their sizes counted in k digits
 abbrev before? : ℕ → ℕ → ℕ → Bool

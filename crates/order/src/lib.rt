@@ -1,4 +1,6 @@
 // The order of the guesses as a constant list.
+#![tactic(auto)]
+
 ghost use Rattle.std.specs.Prelude.{◌≡◌};
 ghost use Rattle.semantics.specs.Definitions.Order.{order};
 ghost use Rattle.order.specs.Table.{table_width};

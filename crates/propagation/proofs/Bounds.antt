@@ -13,7 +13,8 @@ use Rattle.semantics.specs.Definitions.Guesses.{Negation, not_known, may_be, num
 use Rattle.semantics.specs.Definitions.Verdict.{found_has}
 use Rattle.semantics.specs.Definitions.Propagation.{Pair}
 use Rattle.semantics.specs.Theorems.Negations.{atom_of}
-use Rattle.semantics.specs.Theorems.Contradicted.{Clash, dec_clash}
+use Rattle.semantics.specs.Theorems.Contradicted.{Clash}
+use Rattle.semantics.proofs.Theorems.Contradicted.{dec_clash}
 use Rattle.guess.specs.declared.outline.Outline.{Outline}
 use Rattle.guess.specs.Negations.{negations_in, negations_by, found_by}
 use Rattle.propagation.specs.Pairs.{Clashes}

@@ -10,7 +10,8 @@ use Rattle.sets.specs.Sets.{∅}
 use Rattle.semantics.specs.Words.{rule_in, program_in}
 use Rattle.semantics.specs.Definitions.Rules.{Rule}
 use Rattle.semantics.specs.Definitions.Propagation.{Pair, sure}
-use Rattle.semantics.specs.Theorems.Closure.{Sure, dec_sure}
+use Rattle.semantics.specs.Theorems.Closure.{Sure}
+use Rattle.semantics.proofs.Theorems.Closure.{dec_sure}
 use Rattle.semantics.specs.Theorems.Contradicted.{EmptyHead}
 use Rattle.propagation.proofs.Programs.{some-none, some_more, some_at}
 

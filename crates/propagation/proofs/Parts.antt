@@ -10,10 +10,13 @@ use Rattle.sets.specs.Sets.{Meets}
 use Rattle.semantics.specs.Definitions.Rules.{Rule}
 use Rattle.semantics.specs.Definitions.Setting.{Setting, add}
 use Rattle.semantics.specs.Definitions.Propagation.{Pair, contradicted}
-use Rattle.semantics.specs.Theorems.Closure.{LeastClosed, least-only}
-use Rattle.semantics.specs.Theorems.Apart.{never_meet}
-use Rattle.semantics.specs.Theorems.Contradicted.{EmptyHead, pair_of, ContradictedBy, dec_contradicted_by}
-use Rattle.semantics.specs.Theorems.Constraints.{Constraints, SureConstraint, least-added, empty_head_added}
+use Rattle.semantics.specs.Theorems.Closure.{LeastClosed}
+use Rattle.semantics.proofs.Theorems.Closure.{least-only}
+use Rattle.semantics.proofs.Theorems.Apart.{never_meet}
+use Rattle.semantics.specs.Theorems.Contradicted.{EmptyHead, pair_of, ContradictedBy}
+use Rattle.semantics.proofs.Theorems.Contradicted.{dec_contradicted_by}
+use Rattle.semantics.specs.Theorems.Constraints.{Constraints, SureConstraint}
+use Rattle.semantics.proofs.Theorems.Constraints.{least-added, empty_head_added}
 use Rattle.propagation.specs.Pairs.{Clashes}
 
 module _ (cs : List Rule) (empty : Constraints cs) (s : Setting) (g : ℕ) where

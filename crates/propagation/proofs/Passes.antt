@@ -11,7 +11,8 @@ use Rattle.sets.specs.Members.{∈-∅, ∈-∩, ∈-∪, ∈-∖, ∈_ext, ∈-
 use Rattle.semantics.specs.Words.{rule_in, program_in}
 use Rattle.semantics.specs.Definitions.Rules.{Rule}
 use Rattle.semantics.specs.Definitions.Propagation.{Pair, step, steps, propagated}
-use Rattle.semantics.specs.Theorems.Closure.{EntersT, EntersF, LeastClosed, dec_dead, step_t, step_f, propagated_is}
+use Rattle.semantics.specs.Theorems.Closure.{EntersT, EntersF, LeastClosed}
+use Rattle.semantics.proofs.Theorems.Closure.{dec_dead, step_t, step_f, propagated_is}
 use Rattle.propagation.specs.Pairs.{EntersBy, SupportedBy}
 use Rattle.propagation.proofs.Programs.{Some, some-none, some_more}
 

@@ -1,4 +1,6 @@
 // T and F of a reduct that is held in words, four a rule (`program_in` of semantics/specs/Words.antt), and whether they contradict the guess.
+#![tactic(auto)]
+
 ghost use Rattle.std.specs.Prelude.{◌≡◌, ◌↔◌, ℕ, ◌+◌, ◌*◌, ◌^◌, ◌<◌, ◌≤◌, length};
 ghost use Rattle.sets.specs.Decides.{Decides};
 ghost use Rattle.sets.specs.Sets.{◌∈◌};
@@ -18,7 +20,7 @@ use guess::outline::Outline;
 use sets::{full, meets, minus, size, subset};
 
 // The sets T and F.
-#[derive(Drop)]
+#[derive(Clone, Copy)]
 pub struct Pair {
     pub t: u16,
     pub f: u16,

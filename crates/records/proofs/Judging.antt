@@ -5,7 +5,7 @@ use mathlib.Core.List.{List}
 use Rattle.semantics.specs.Definitions.Rules.{Rule}
 use Rattle.semantics.specs.Definitions.Verdict as meant
 use Rattle.semantics.specs.Walk.{judged_as}
-use Rattle.semantics.specs.Theorems.Verdict.{verified_few}
+use Rattle.semantics.proofs.Theorems.Verdict.{verified_few}
 use Rattle.guess.specs.declared.outline.Outline.{Outline}
 use Rattle.guess.specs.Settings.{setting_by}
 use Rattle.verdict.specs.declared.Verdict.{Verdict}

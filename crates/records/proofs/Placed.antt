@@ -2,7 +2,7 @@
 use Prim.Native.Nat.{ℕ, suc, ◌+◌, ◌*◌, ◌-◌, ◌≤◌, ◌<◌}
 use mathlib.Core.Path.{◌≡◌, refl, sym, ap, ap₂, ◌∙◌}
 use mathlib.Core.Bool.{Bool, true}
-use mathlib.Core.List.{List, [], ◌∷◌, ◌++◌, append_nil, append_assoc}
+use mathlib.Core.List.{List, [], ◌∷◌, ◌++◌, append-nil, append_assoc}
 use native.Mathlib.Nat.{not-suc-le-zero}
 use native.Mathlib.Numerals.{add-one}
 use native.Mathlib.Omega.{arith}
@@ -39,7 +39,7 @@ module _ (at : ℕ) (buffer : List ℕ) where
   part-written ws {after} e =
       let none : drop (length buffer - at) (drop at buffer) ≡ [] = drop_of_length-le (drop at buffer) {i = length buffer - at} (omega (arith, length-drop at buffer)) in
       let front : after ≡ ws ++ drop (at + length ws) buffer = e ∙ ap (written ws) whole ∙ ap (λ z. ws ++ z) (drop-drop (length ws) at buffer) in
-      ap (λ z. take at buffer ++ z) (ap₂ ◌++◌ front none ∙ append_nil _)
+      ap (λ z. take at buffer ++ z) (ap₂ ◌++◌ front none ∙ append-nil _)
 
   pub placed_long : (ws : List ℕ) → at + length ws ≤ length buffer → length (placed at ws buffer) ≡ length buffer
   placed_long ws h =

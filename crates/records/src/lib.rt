@@ -1,5 +1,7 @@
 // What a guess counts as, the six counts, and the records of world views. Here the records, which stand in words, four each: guess, known,
 // possible, number of sets.
+#![tactic(auto)]
+
 pub mod atoms;
 pub mod outcome;
 
@@ -13,7 +15,7 @@ ghost use Rattle.records.specs.Records.{view_from, view_in, views_in, LargerFirs
 use sets::{size, subset};
 
 // A world view: its guess, what is known and possible in it, and its number of belief sets.
-#[derive(Drop)]
+#[derive(Clone, Copy)]
 pub struct View {
     pub guess: u16,
     pub known: u16,

@@ -16,7 +16,7 @@ use guess::outline::Outline;
 use verdict::{Verdict, judge};
 
 // What a guess counts as: covered, ruled, or tested and then by its verdict.
-#[derive(Drop)]
+#[derive(Clone, Copy)]
 pub enum Outcome {
     Covered,
     Ruled,
@@ -26,7 +26,7 @@ pub enum Outcome {
 }
 
 // How many guesses count as what.
-#[derive(Drop)]
+#[derive(Clone, Copy)]
 pub struct Tally {
     pub views: usize,
     pub covered: usize,

@@ -13,7 +13,8 @@ use Rattle.sets.specs.Members.{dec_∈, ∈-∅, ∈-∖, ∈-full, ∈-single, 
 use Rattle.semantics.specs.Definitions.Guesses.{Negation, not_known, may_be, assumed}
 use Rattle.semantics.specs.Definitions.Setting.{k, negation}
 use Rattle.semantics.specs.Definitions.Verdict.{found_has}
-use Rattle.semantics.specs.Theorems.Negations.{atom_of, definition_3, dec_assumed}
+use Rattle.semantics.specs.Theorems.Negations.{atom_of}
+use Rattle.semantics.proofs.Theorems.Negations.{definition_3, dec_assumed}
 use Rattle.semantics.specs.Theorems.Literals.{Assumes}
 use Rattle.guess.specs.declared.outline.Outline.{Outline}
 use Rattle.guess.specs.Programs.{unmasked_in, Outlines}

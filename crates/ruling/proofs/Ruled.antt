@@ -15,7 +15,8 @@ use Rattle.semantics.specs.Words.{rules_in}
 use Rattle.semantics.specs.Theorems.Negations.{Mentioned, dec_mentioned}
 use Rattle.semantics.specs.Theorems.Subjects.{mentioned_in, k_atoms_below, m_atoms_below}
 use Rattle.semantics.specs.Theorems.Contradicted.{pair_of}
-use Rattle.semantics.specs.Theorems.Literals.{Assumes, RuledOut, dec_ruled_out}
+use Rattle.semantics.specs.Theorems.Literals.{Assumes, RuledOut}
+use Rattle.semantics.proofs.Theorems.Literals.{dec_ruled_out}
 use Rattle.guess.specs.declared.outline.Outline.{Outline}
 use Rattle.guess.specs.Programs.{unmasked_in, Outlines}
 use Rattle.guess.specs.Numbered.{rules_of, masks_below}

@@ -6,7 +6,7 @@ use mathlib.Core.List.{List}
 use mathlib.Core.Logic.{◌↔◌, ◌⊎◌, inl, inr, ⊎_elim}
 use native.Mathlib.Omega.{arith}
 use lib.ListN.{get_or}
-use Rattle.sets.specs.Lists.{◌among◌, get_or-up_to}
+use Rattle.sets.specs.Lists.{get_or-up_to}
 use Rattle.sets.specs.Sets.{◌∈◌, Meets, ◌∪◌, ◌∖◌}
 use Rattle.sets.specs.Members.{∈-∪, ∈-∖, ∈_below, get_or_below}
 use Rattle.semantics.specs.Definitions.Rules.{EpistemicRule, Subjective, K, not_k, M, not_m}

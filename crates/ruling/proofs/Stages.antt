@@ -12,8 +12,9 @@ use Rattle.semantics.specs.Definitions.Rules.{Rule, EpistemicRule}
 use Rattle.semantics.specs.Definitions.Propagation.{Pair, steps, propagated}
 use Rattle.semantics.specs.Definitions.Sheet.{rule_of_masks}
 use Rattle.semantics.specs.Words.{masks_in}
-use Rattle.semantics.specs.Theorems.Closure.{stage_below, stage_fixed}
-use Rattle.semantics.specs.Theorems.Literals.{SureRule, DeadRule, AllDead, next_t, next_f}
+use Rattle.semantics.proofs.Theorems.Closure.{stage_below, stage_fixed}
+use Rattle.semantics.specs.Theorems.Literals.{SureRule, DeadRule, AllDead}
+use Rattle.semantics.proofs.Theorems.Literals.{next_t, next_f}
 use Rattle.guess.specs.declared.outline.Outline.{Outline}
 use Rattle.guess.specs.Programs.{unmasked_in, Outlines}
 use Rattle.guess.specs.Numbered.{rules_of, rule_there, rule_number, masks_below}

@@ -1,6 +1,6 @@
 -- The lanes whose guesses assume a negation. Assumes nothing.
 use Rattle.std.specs.Prelude.{ℕ, ◌+◌, ◌*◌, ◌≤◌, ◌<◌, ◌≡◌, List, length, get_or, set}
-use Rattle.std.proofs.Common.{sym, ap, subst, ◌∙◌, ⊎_elim, arith, not-suc-le-zero, length_set}
+use Rattle.std.proofs.Common.{sym, ap, subst, ◌∙◌, ⊎_elim, arith, not-suc-le-zero, length-set}
 use Rattle.sets.specs.Decides.{decided}
 use Rattle.sets.specs.Sets.{◌∖◌, Meets, full, single, ∅}
 use Rattle.sets.specs.Members.{dec_meets, ∅-⊆}
@@ -35,7 +35,7 @@ numbers_more x {n} {u} {v} {l} h long e f s = record {
     h₁ = omega arith
 
     h₂ : 16 + n < length (set l n u)
-    h₂ = simp length_set (omega arith)
+    h₂ = simp length-set (omega arith)
 
 -- of the first n atoms: the lanes of word w whose guesses have a number of the set at that place
 pub record AssumedIn (numbers : List ℕ) (from w n : ℕ) (lanes : List ℕ) : Type 0 where

@@ -1,14 +1,14 @@
 -- Three words an atom, made of one. Assumes nothing.
 use Rattle.std.specs.Prelude.{ℕ, ◌+◌, ◌≤◌, ◌<◌, ◌≡◌, List, length, get_or, set}
-use Rattle.std.proofs.Common.{sym, ap, subst, ◌∙◌, ⊎_elim, arith, not-suc-le-zero, length_set, get_or_set_same, get_or_set_other}
+use Rattle.std.proofs.Common.{sym, ap, subst, ◌∙◌, ⊎_elim, arith, not-suc-le-zero, length-set, get_or-set_same, get_or-set_other}
 use Rattle.sets.specs.Decides.{decided, dec_eq}
 use Rattle.sets.specs.Sets.{◌∪◌, ◌∖◌}
 
 -- a word of a list after a store at i
 pub set_word : (l : List ℕ) (i v a : ℕ) (P : ℕ → Type 0) → i < length l → (a ≡ i → P v) → ((a ≡ i → ⊥) → P (get_or l a 0)) → P (get_or (set l i v) a 0)
 set_word l i v a P h p q =
-    ⊎_elim (λ e. subst P (sym (ap (λ z. get_or (set l i v) z 0) e ∙ get_or_set_same l i v 0 h)) (p e))
-    (λ n. subst P (sym (get_or_set_other l i a v 0 n)) (q n)) (decided (dec_eq a i))
+    ⊎_elim (λ e. subst P (sym (ap (λ z. get_or (set l i v) z 0) e ∙ get_or-set_same l i v 0 h)) (p e))
+    (λ n. subst P (sym (get_or-set_other l i a v 0 n)) (q n)) (decided (dec_eq a i))
 
 -- a place in a list that is as long as another
 pub in_long : {a n m k : ℕ} → a < k → n ≡ m → k ≤ m → a < n
@@ -41,10 +41,10 @@ module _ (x less more : List ℕ) where
     h₁ = omega arith
 
     h₂ : 16 + n < length a₁
-    h₂ = simp length_set (omega arith)
+    h₂ = simp length-set (omega arith)
 
     h₃ : 32 + n < length a₂
-    h₃ = simp length_set (omega arith)
+    h₃ = simp length-set (omega arith)
 
     pub laid_more : Laid (n + 1) a₃
     laid_more = record {

@@ -1,4 +1,6 @@
 // Which guesses are contradicted, 64 a word: lane b of word w is the guess 64w + b.
+#![tactic(auto)]
+
 pub mod assumed;
 pub mod contradiction;
 pub mod literals;

@@ -4,7 +4,6 @@
 pub mod Sheets
 pub mod Own
 pub mod Limits
-pub mod Longest
 pub mod Reducts
 pub mod Guesses
 pub mod Listings

@@ -1,10 +1,10 @@
 -- Lists as collections: membership, tests over the members, the members that pass a test, the numbers below n. Assumes nothing.
 use Rattle.std.specs.Prelude.{ℕ, zero, suc, ◌<◌, ◌≡◌, Bool, not, ◌&&◌, ◌↔◌, ◌⊎◌, eqb, length, get_or, take}
 use Rattle.std.proofs.Math.Path.{refl, ap, ap₂}
-use Rattle.std.proofs.Common.{sym, ◌∙◌, subst, true≢false, arith, eq-or-lt_of_le, le_of_suc_le_suc, not-suc-le-zero, length-append, take-append-drop}
+use Rattle.std.proofs.Common.{sym, ◌∙◌, subst, true≢false, arith, eq-or-lt_of_le, le_of_suc-le-suc, not-suc-le-zero, length-append, take-append-drop}
 use Rattle.std.proofs.Math.Bool.{true, false, ◌||◌, cond}
 use mathlib.Core.List.Memᴰ
-use mathlib.Core.List.{List, [], ◌∷◌, ◌++◌, append_nil, append_assoc, foldl, map, map-append, Memᴰ, cons≢nil}
+use mathlib.Core.List.{List, [], ◌∷◌, ◌++◌, append-nil, append_assoc, foldl, map, map-append, Memᴰ, cons≢nil}
 use Rattle.std.proofs.Math.Logic.{inl, inr, ⊎_elim}
 use Rattle.std.proofs.lemmas.List.{length-map, get_or_at}
 use Rattle.std.proofs.Math.ListN.{get_or-append}
@@ -110,13 +110,13 @@ module _ {A : Type 0} where
   pub get_or-among : (l : List A) (d : A) (i : ℕ) → i < length l → get_or l i d among l
   get_or-among [] d i h = absurd (not-suc-le-zero h)
   get_or-among (x ∷ l) d zero h = here
-  get_or-among (x ∷ l) d (suc i) h = later (get_or-among l d i (le_of_suc_le_suc h))
+  get_or-among (x ∷ l) d (suc i) h = later (get_or-among l d i (le_of_suc-le-suc h))
 
   -- a member has a place
   pub among_place : {x : A} (l : List A) (d : A) → x among l → (i : ℕ) × (i < length l) × (get_or l i d ≡ x)
-  among_place [] d m = absurd (nowhere m)
-  among_place (y ∷ l) d m =
-      ⊎_elim (λ e. (zero, omega arith, sym e)) (λ k. let (i, h, e) = among_place l d k in (suc i, omega arith, e)) (first_or_later m)
+  among_place {x} [] d m = absurd (nowhere m)
+  among_place {x} (y ∷ l) d m =
+      ⊎_elim (λ e. (zero, omega arith, sym e)) (λ k. let (i, h, e) = among_place {x = x} l d k in (suc i, omega arith, e)) (first_or_later m)
 
   pub among-only : (b : Bool) {x y : A} → x among only b y ↔ ((b ≡ true) × (x ≡ y))
   among-only true = (λ m. (refl, Memᴰ.eq_of_singleton m), λ p. Memᴰ.head p.1)
@@ -150,7 +150,7 @@ module _ {A : Type 0} where
 
     pub keep_snoc : (l : List A) (x : A) → keep f (l ++ x ∷ []) ≡ keep f l ++ only (f x) x
     unfolding keep
-    keep_snoc l x = keep_append l (x ∷ []) ∙ rw keep_cons (rw append_nil)
+    keep_snoc l x = keep_append l (x ∷ []) ∙ rw keep_cons (rw append-nil)
 
     -- those that pass a test h, and then f
     pub keep-keep : (h : A → Bool) (l : List A) → keep f (keep h l) ≡ keep (λ x. f x && h x) l
@@ -257,7 +257,7 @@ flat_append f (x ∷ l) m = ap (λ z. f x ++ z) (flat_append f l m) ∙ sym (app
 
 pub flat_snoc : {A B : Type 0} (f : A → List B) (l : List A) (x : A) → flat f (l ++ x ∷ []) ≡ flat f l ++ f x
 unfolding flat
-flat_snoc f [] x = append_nil (f x)
+flat_snoc f [] x = append-nil (f x)
 flat_snoc f (y ∷ l) x = ap (λ m. f y ++ m) (flat_snoc f l x) ∙ sym (append_assoc (f y) (flat f l) (f x))
 
 -- a fold over one member more
@@ -271,7 +271,7 @@ among-up_to zero = ((λ m. absurd (nowhere m)), λ h. absurd (not-suc-le-zero h)
 among-up_to (suc n) =
     let ih = among-up_to n in (
       λ m. ⊎_elim (λ q. let h = ih.0 q in omega arith) (λ q. let e = Memᴰ.eq_of_singleton q in omega arith) ((among-append (up_to n)).0 m),
-      λ h. (among-append (up_to n)).1 (⊎_elim (λ e. inr (Memᴰ.head e)) (λ l. inl (ih.1 l)) (eq-or-lt_of_le (le_of_suc_le_suc h))),
+      λ h. (among-append (up_to n)).1 (⊎_elim (λ e. inr (Memᴰ.head e)) (λ l. inl (ih.1 l)) (eq-or-lt_of_le (le_of_suc-le-suc h))),
     )
 
 pub length-up_to : (n : ℕ) → length (up_to n) ≡ n
@@ -287,7 +287,7 @@ get_or-up_to f d (suc n) i h =
     rw map-append (⊎_elim
     (λ e. get_or_at (map f (up_to n)) (f n) [] d i (l ∙ sym e) ∙ ap f (sym e))
     (λ m. get_or-append (map f (up_to n)) (f n ∷ []) d i (omega arith) ∙ get_or-up_to f d n i m)
-    (eq-or-lt_of_le (le_of_suc_le_suc h)))
+    (eq-or-lt_of_le (le_of_suc-le-suc h)))
 
 -- a list that f gives, number by number
 module _ {A : Type 0} (f : ℕ → A) where
@@ -316,7 +316,7 @@ among-down_from zero = ((λ m. absurd (nowhere m)), λ h. absurd (not-suc-le-zer
 among-down_from (suc n) =
     let ih = among-down_from n in (
       λ m. ⊎_elim (λ e. omega arith) (λ q. let h = ih.0 q in omega arith) (first_or_later m),
-      λ h. ⊎_elim (λ e. Memᴰ.head e) (λ l. later (ih.1 l)) (eq-or-lt_of_le (le_of_suc_le_suc h)),
+      λ h. ⊎_elim (λ e. Memᴰ.head e) (λ l. later (ih.1 l)) (eq-or-lt_of_le (le_of_suc-le-suc h)),
     )
 
 -- the numbers below n that pass a test

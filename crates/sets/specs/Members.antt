@@ -1,7 +1,7 @@
 -- The members of each set that is made of others, and what the tests decide. Here the laws of bits end. Assumes nothing.
 use Prim.Native.Nat.{ℕ, zero, suc, ◌+◌, ◌-◌, ◌*◌, ◌/◌, ◌%◌, ◌^◌, ◌≤◌, ◌<◌, min, max}
 use Rattle.std.specs.Prelude.{◌≡◌, refl, Bool, not, ◌&&◌, ◌↔◌, ◌⊎◌, eqb, get_or}
-use Rattle.std.proofs.Common.{sym, ap₂, ◌∙◌, subst, true≢false, eq-zero-or-pos, eq-or-lt_of_le, le_of_suc_le_suc, not-suc-le-zero, lt_of_lt_of_le, lt_of_not_le, shr-shr, pow-add, pow_mono, pow_pos}
+use Rattle.std.proofs.Common.{sym, ap₂, ◌∙◌, subst, true≢false, eq-zero-or-pos, eq-or-lt_of_le, le_of_suc-le-suc, not-suc-le-zero, lt_of_lt_of_le, lt_of_not-le, shr-shr, pow-add, pow_mono, pow_pos}
 use Rattle.std.proofs.Math.Path.{ap}
 use Rattle.std.proofs.Math.Bool.{true, false, cond}
 use mathlib.Core.List.{List, [], ◌∷◌, foldl}
@@ -21,7 +21,7 @@ pub dec_∈ : (a x : ℕ) → Decides (a ∈ x) (a ∈? x)
 dec_∈ a x = dec_iff (λ e. record { bit = e }, λ m. m.bit) (dec_eq (x / 2 ^ a % 2) 1)
 
 pub ∈_below : {a n x : ℕ} → x < 2 ^ n → a ∈ x → a < n
-∈_below {a} {n} {x} l m = lt_of_not_le (λ q. let z = div-eq_of_lt (lt_of_lt_of_le l (pow_mono q)) in omega (arith, m.bit))
+∈_below {a} {n} {x} l m = lt_of_not-le (λ q. let z = div-eq_of_lt (lt_of_lt_of_le l (pow_mono q)) in omega (arith, m.bit))
 
 pub ∈-∅ : {a : ℕ} → a ∈ ∅ → ⊥
 ∈-∅ {a} m = omega (arith, m.bit, zero-div (2 ^ a))
@@ -173,7 +173,7 @@ next_subset = bin_ind (λ s. (y t : ℕ) → s ∩ y ≡ s → t ∩ y ≡ t →
 
 pub none_between : {s t y : ℕ} → s ⊆ y → t ⊆ y → (s - 1) ∩ y ≤ t → (t ≡ (s - 1) ∩ y) ⊎ (s ≤ t)
 none_between {s} {t} {y} p q l =
-    ⊎_elim inr (λ n. inl (omega (arith, next_subset s y t (⊆-∩ p) (⊆-∩ q) (lt_of_not_le n)))) (decided (dec_le s t))
+    ⊎_elim inr (λ n. inl (omega (arith, next_subset s y t (⊆-∩ p) (⊆-∩ q) (lt_of_not-le n)))) (decided (dec_le s t))
 
 pub next_less : (s y : ℕ) → 0 < s → (s - 1) ∩ y < s
 next_less s y l = omega (arith, and_le_l (s - 1) y)
@@ -221,7 +221,7 @@ has_and_lacks i x y = dec_one (dec_iff (from_empty, to_empty) (dec_eq (x ∖ i �
 -- ---- a alone, and the numbers below n of which f holds
 pub ∈-single : (a b : ℕ) → a ∈ single b ↔ (a ≡ b)
 ∈-single a b = (
-  λ m. ⊎_elim (λ e. e) (λ l. absurd (below l m)) (eq-or-lt_of_le (le_of_suc_le_suc (∈_below (pow-lt (omega arith)) m))),
+  λ m. ⊎_elim (λ e. e) (λ l. absurd (below l m)) (eq-or-lt_of_le (le_of_suc-le-suc (∈_below (pow-lt (omega arith)) m))),
   λ e. record { bit = rw e (ap (λ z. z / 2 ^ b % 2) (sym (one-mul (2 ^ b))) ∙ ap (λ z. z % 2) (shl-shr 1 b)) },
 )
   where
@@ -269,7 +269,7 @@ module _ (f : ℕ → Bool) where
       let one = ∈_cond (f n) a n in
       rw (set_of-suc n) (
         λ m. ⊎_elim (λ q. let (b, e) = one.0 q in (omega arith, ap f e ∙ b)) (λ q. let (l, b) = ih.0 q in (omega arith, b)) ((∈-∪ a _ _).0 m),
-        λ p. (∈-∪ a _ _).1 (⊎_elim (λ e. inl (one.1 (ap f (sym e) ∙ p.1, e))) (λ l. inr (ih.1 (l, p.1))) (eq-or-lt_of_le (le_of_suc_le_suc p.0))),
+        λ p. (∈-∪ a _ _).1 (⊎_elim (λ e. inl (one.1 (ap f (sym e) ∙ p.1, e))) (λ l. inr (ih.1 (l, p.1))) (eq-or-lt_of_le (le_of_suc-le-suc p.0))),
       )
 
 pub ∈_set_of_dec : (P : ℕ → Type 0) (f : ℕ → Bool) → ((a : ℕ) → Decides (P a) (f a)) → (n : ℕ) {a : ℕ} → a ∈ set_of f n ↔ ((a < n) × P a)

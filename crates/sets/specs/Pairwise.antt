@@ -1,6 +1,6 @@
 -- Relations between each member of a list and every later one: distinct members, sorted lists. Assumes nothing.
 use Rattle.std.specs.Prelude.{ℕ, zero, suc, ◌<◌, ◌≡◌, refl, Bool, ◌&&◌, cond, ◌↔◌, length, get_or}
-use Rattle.std.proofs.Common.{sym, ap, ap₂, ◌∙◌, subst, inl, inr, ⊎_elim, arith, le_of_suc_le_suc, not-suc-le-zero}
+use Rattle.std.proofs.Common.{sym, ap, ap₂, ◌∙◌, subst, inl, inr, ⊎_elim, arith, le_of_suc-le-suc, not-suc-le-zero}
 use Rattle.std.proofs.Math.Bool.{true, false}
 use mathlib.Core.List.Memᴰ
 use mathlib.Core.List.{List, [], ◌∷◌, ◌++◌, map}
@@ -55,16 +55,16 @@ module _ {A : Type 0} where
   pub pairwise_places : (R : A → A → Type 0) (l : List A) (d : A) → Pairwise R l → (i j : ℕ) → i < j → j < length l → R (get_or l i d) (get_or l j d)
   pairwise_places R [] d p i j h k = absurd (not-suc-le-zero k)
   pairwise_places R (x ∷ l) d p i zero h k = absurd (not-suc-le-zero h)
-  pairwise_places R (x ∷ l) d p zero (suc j) h k = p.0 (get_or l j d) (get_or-among l d j (le_of_suc_le_suc k))
-  pairwise_places R (x ∷ l) d p (suc i) (suc j) h k = pairwise_places R l d p.1 i j (le_of_suc_le_suc h) (le_of_suc_le_suc k)
+  pairwise_places R (x ∷ l) d p zero (suc j) h k = p.0 (get_or l j d) (get_or-among l d j (le_of_suc-le-suc k))
+  pairwise_places R (x ∷ l) d p (suc i) (suc j) h k = pairwise_places R l d p.1 i j (le_of_suc-le-suc h) (le_of_suc-le-suc k)
 
   -- no two places have the same member
   pub distinct_places : (l : List A) (d : A) → Distinct l → (i j : ℕ) → i < length l → j < length l → get_or l i d ≡ get_or l j d → i ≡ j
   distinct_places [] d p i j h k e = absurd (not-suc-le-zero h)
   distinct_places (x ∷ l) d p zero zero h k e = refl
-  distinct_places (x ∷ l) d p zero (suc j) h k e = absurd (p.0 (get_or l j d) (get_or-among l d j (le_of_suc_le_suc k)) e)
-  distinct_places (x ∷ l) d p (suc i) zero h k e = absurd (p.0 (get_or l i d) (get_or-among l d i (le_of_suc_le_suc h)) (sym e))
-  distinct_places (x ∷ l) d p (suc i) (suc j) h k e = ap suc (distinct_places l d p.1 i j (le_of_suc_le_suc h) (le_of_suc_le_suc k) e)
+  distinct_places (x ∷ l) d p zero (suc j) h k e = absurd (p.0 (get_or l j d) (get_or-among l d j (le_of_suc-le-suc k)) e)
+  distinct_places (x ∷ l) d p (suc i) zero h k e = absurd (p.0 (get_or l i d) (get_or-among l d i (le_of_suc-le-suc h)) (sym e))
+  distinct_places (x ∷ l) d p (suc i) (suc j) h k e = ap suc (distinct_places l d p.1 i j (le_of_suc-le-suc h) (le_of_suc-le-suc k) e)
 
   pub pairwise_mapped : {B : Type 0} (R : B → B → Type 0) (f : A → B) (l : List A) → Pairwise (λ x y. R (f x) (f y)) l → Pairwise R (map f l)
   pairwise_mapped R f [] p = tt

@@ -1,6 +1,6 @@
 -- The members of a set below k, and from k on. Assumes nothing.
 use Rattle.std.specs.Prelude.{ℕ, ◌+◌, ◌-◌, ◌/◌, ◌%◌, ◌^◌, ◌<◌, ◌≡◌, ◌↔◌, ◌⊎◌}
-use Rattle.std.proofs.Common.{sym, ap, ◌∙◌, inl, inr, ⊎_elim, arith, lt_of_not_le, shr-shr}
+use Rattle.std.proofs.Common.{sym, ap, ◌∙◌, inl, inr, ⊎_elim, arith, lt_of_not-le, shr-shr}
 use Rattle.std.proofs.lemmas.Nat.{and_mask}
 use Rattle.sets.specs.Decides.{decided, dec_le}
 use Rattle.sets.specs.Sets.{◌∈◌, ◌⊆◌, Meets, full}
@@ -20,7 +20,7 @@ module _ (k a x : ℕ) where
 
 -- a member is below k or from k on
 side : (k a : ℕ) → (a < k) ⊎ ((c : ℕ) × (a ≡ k + c))
-side k a = ⊎_elim (λ l. inr (a - k, omega arith)) (λ n. inl (lt_of_not_le n)) (decided (dec_le k a))
+side k a = ⊎_elim (λ l. inr (a - k, omega arith)) (λ n. inl (lt_of_not-le n)) (decided (dec_le k a))
 
 module _ (k x y : ℕ) where
   pub ⊆_parts : x ⊆ y ↔ ((x / 2 ^ k ⊆ y / 2 ^ k) × (x % 2 ^ k ⊆ y % 2 ^ k))

@@ -1,6 +1,6 @@
 -- The size of a set: how many members it has. A proper subset is smaller. Assumes nothing.
 use Rattle.std.specs.Prelude.{ℕ, zero, suc, ◌+◌, ◌/◌, ◌%◌, ◌^◌, ◌≤◌, ◌<◌, ◌≡◌, refl, Bool, true, false, List, ◌∷◌, ◌↔◌, leb, length}
-use Rattle.std.proofs.Common.{sym, ap, ◌∙◌, subst, ⊎_elim, arith, mod-eq_of_lt, mod-lt, pow-suc, lt_of_not_le, lt_of_le_of_lt, length-append, pow_pos}
+use Rattle.std.proofs.Common.{sym, ap, ◌∙◌, subst, ⊎_elim, arith, mod-eq_of_lt, mod-lt, pow-suc, lt_of_not-le, lt_of_le_of_lt, length-append, pow_pos}
 use Rattle.std.proofs.Math.Nat.{mod-one}
 use Rattle.std.proofs.Math.Arith.{lt-one}
 use Rattle.std.specs.Int.Count.{ones, ones_step, ones_in}
@@ -71,7 +71,7 @@ pub not_below_power : (n x : ℕ) → (x < 2 ^ n → ⊥) ↔ ((a : ℕ) × (a �
 not_below_power n x = (
   λ f.
       ⊎_elim (λ (a, m, l). (a, (among-members_of x).0 m, l))
-      (λ none. absurd (f ((below_power n x).1 (λ a m. lt_of_not_le (λ l. none (a, (among-members_of x).1 m, l))))))
+      (λ none. absurd (f ((below_power n x).1 (λ a m. lt_of_not-le (λ l. none (a, (among-members_of x).1 m, l))))))
       (decided (dec_some (λ a. leb n a) (λ a. n ≤ a) (members_of x) (λ a _. dec_le n a))),
   λ (a, m, l) h. let below = ∈_below h m in omega arith,
 )
@@ -108,7 +108,7 @@ module _ {x y : ℕ} (s : x ⊆ y) where
 
 pub size-⊂ : {x y : ℕ} → x ⊂ y → size x < size y
 size-⊂ {x} {y} s =
-    lt_of_not_le (λ q.
+    lt_of_not-le (λ q.
     s.differ (⊆_antisym s.within (record {
       into = λ {a} m. ⊎_elim (λ k. k) (λ n. let l = one_more s.within a m n in absurd (omega arith)) (decided (dec_∈ a x));
     })))

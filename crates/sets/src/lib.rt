@@ -1,5 +1,7 @@
 // A 16-bit word as a set of the numbers 0 to 15: atoms, or epistemic negations. Each contract is in terms of sets; what the tests
 // decide is in specs/Members.antt and specs/Size.antt. `wide` has 64-bit words.
+#![tactic(auto)]
+
 pub mod wide;
 
 ghost use Rattle.std.specs.Prelude.{◌≡◌, not, ◌&&◌, cond, ◌^◌, ◌<◌};

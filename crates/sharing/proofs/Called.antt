@@ -11,7 +11,7 @@ use Rattle.sets.specs.Lists.{up_to, length-up_to, get_or-up_to}
 use Rattle.semantics.specs.Definitions.Setting.{Setting}
 use Rattle.semantics.specs.Definitions.Returned.{Returned, accepted}
 use Rattle.semantics.specs.Definitions.Check.{of_sheet}
-use Rattle.semantics.specs.Definitions.Sharing.{shares_of, granted, denied, ◌and-so◌, of_sheets, shares_into, share_call}
+use Rattle.semantics.specs.Definitions.Sharing.{shares_of, granted, denied, ◌and_so◌, of_sheets, shares_into, share_call}
 use Rattle.allowance.specs.SheetBySheet.{each_granted, each_denied}
 use Rattle.guess.specs.declared.outline.Outline.{Outline}
 use Rattle.source.specs.declared.Source.{Source}

@@ -12,7 +12,7 @@ use Rattle.sets.specs.Lists.{up_to, length-up_to, get_or-up_to}
 use Rattle.semantics.specs.Definitions.Setting.{Setting}
 use Rattle.semantics.specs.Definitions.Returned.{accepted, refusal, written}
 use Rattle.semantics.specs.Definitions.Listing.{words}
-use Rattle.semantics.specs.Definitions.Sharing.{tests_of, finished_in, turns_at, Share, share_of, paid, shares_of, granted, denied, ◌and-so◌, share_into, shares_into, Numbers, numbers_of, absent, filled, handed}
+use Rattle.semantics.specs.Definitions.Sharing.{tests_of, finished_in, turns_at, Share, share_of, paid, shares_of, granted, denied, ◌and_so◌, share_into, shares_into, Numbers, numbers_of, absent, filled, handed}
 use Rattle.semantics.specs.Theorems.Returned.{fits_limited, short_limited}
 use Rattle.allowance.specs.SheetBySheet.{each_granted, each_denied}
 use Rattle.allowance.specs.Shares.{shares_long, share-at, share_tests}

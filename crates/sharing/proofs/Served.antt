@@ -4,7 +4,7 @@ use native.Mathlib.Numerals.{add-one}
 use mathlib.Core.Path.{◌≡◌, refl, sym, ap, ◌∙◌, subst}
 use mathlib.Core.Bool.{true, false, not}
 use mathlib.Core.List.{List, [], ◌∷◌, map}
-use mathlib.Core.Logic.{◌⊎◌, ⊎_elim}
+use mathlib.Core.Logic.{⊎_elim}
 use native.Mathlib.Omega.{arith}
 use borrow.Author.Tests.{not-true, not-false}
 use lib.ListN.{length, get_or, take, drop, length-map}
@@ -17,7 +17,7 @@ use Rattle.semantics.specs.Definitions.Check.{most_negations}
 use Rattle.semantics.specs.Definitions.Order.{order as order_of}
 use Rattle.semantics.specs.Definitions.Listing.{tested, views_along}
 use Rattle.semantics.specs.Definitions.Sharing.{tests_of, met_in, finished_in, in_all, turns_at, paid}
-use Rattle.semantics.specs.Theorems.Order.{order_long}
+use Rattle.semantics.proofs.Theorems.Order.{order_long}
 use Rattle.allowance.specs.Allowance.{done, done-had, done_waits, done_spent, done_all, done_adds}
 use Rattle.allowance.specs.Shares.{many-at, many_long, dec_tests, finished_many}
 use Rattle.order.specs.Table.{table_width}

@@ -2,10 +2,10 @@
 use Prim.Native.Nat.{ℕ, zero, suc, ◌+◌, ◌^◌, ◌≤◌, ◌<◌}
 use mathlib.Core.Path.{◌≡◌, sym, ap, ◌∙◌, subst}
 use mathlib.Core.List.{List, [], ◌∷◌}
-use native.Mathlib.Nat.{not-suc-le-zero, le_of_suc_le_suc}
+use native.Mathlib.Nat.{not-suc-le-zero, le_of_suc-le-suc}
 use native.Mathlib.Omega.{arith}
-use lib.ListN.{length, get_or, set, length_set}
-use lib.Seq.{get_or_set_same, get_or_set_other}
+use lib.ListN.{length, get_or, set, length-set}
+use lib.Seq.{get_or-set_same, get_or-set_other}
 use Rattle.semantics.specs.Definitions.Setting.{k}
 use Rattle.semantics.specs.Definitions.Check.{most_negations}
 use Rattle.semantics.specs.Definitions.Order.{order as order_of}
@@ -50,31 +50,31 @@ pub spent_set : (l : List Paused) (p : ℕ) (y : Paused) → p < length l → sp
 unfolding in_all
 spent_set [] p y h = absurd (not-suc-le-zero h)
 spent_set (x ∷ l) zero y h = omega arith
-spent_set (x ∷ l) (suc p) y h = omega (arith, spent_set l p y (le_of_suc_le_suc h))
+spent_set (x ∷ l) (suc p) y h = omega (arith, spent_set l p y (le_of_suc-le-suc h))
 
 module _ (sources : List Source) (words : List (List ℕ)) (order : List ℕ) (p t : ℕ) (states : List Paused) (programs records : List (List ℕ)) where
   pub turned : p < length states → p < length programs → p < length records → (y : Paused) (program' records' : List ℕ)
       → Goes (get_or sources p unread) (get_or words p []) order y program' records' → Has (setting_at sources words p) t y records'
       → Turned sources words order p t states (set states p y) programs (set programs p program') records (set records p records')
   turned in-states in-programs in-records y program' records' goes has = record {
-    long = length_set states p y;
+    long = length-set states p y;
     goes = came3 (Goes (get_or sources p unread) (get_or words p []) order) state program (record_at_lem) goes;
     has = subst (λ z. Has (setting_at sources words p) t z (get_or (set records p records') p [])) (sym state)
         (subst (λ z. Has (setting_at sources words p) t y z) (sym record_at_lem) has);
-    other_states = λ q d. get_or_set_other states p q y fresh d;
-    other_programs = λ q d. get_or_set_other programs p q program' [] d;
-    other_records = λ q d. get_or_set_other records p q records' [] d;
+    other_states = λ q d. get_or-set_other states p q y fresh d;
+    other_programs = λ q d. get_or-set_other programs p q program' [] d;
+    other_records = λ q d. get_or-set_other records p q records' [] d;
     in_all = spent_set states p y in-states ∙ ap (λ z. spent_in states + z.tally.tested) (sym state);
   }
     where
       state : get_or (set states p y) p fresh ≡ y
-      state = get_or_set_same states p y fresh in-states
+      state = get_or-set_same states p y fresh in-states
 
       program : get_or (set programs p program') p [] ≡ program'
-      program = get_or_set_same programs p program' [] in-programs
+      program = get_or-set_same programs p program' [] in-programs
 
       record_at_lem : get_or (set records p records') p [] ≡ records'
-      record_at_lem = get_or_set_same records p records' [] in-records
+      record_at_lem = get_or-set_same records p records' [] in-records
 
       came3 : (P : Paused → List ℕ → List ℕ → Type 0) {a a' : Paused} {b b' c c' : List ℕ} → a ≡ a' → b ≡ b' → c ≡ c' → P a' b' c' → P a b c
       came3 P {a} {a'} {b} {b'} {c} {c'} d e f h = subst (λ z. P z b c) (sym d) (subst (λ z. P a' z c) (sym e) (subst (λ z. P a' b' z) (sym f) h))

@@ -12,7 +12,7 @@ use Rattle.semantics.specs.Definitions.Check.{of_sheet}
 use Rattle.semantics.specs.Definitions.Listing.{words}
 use Rattle.semantics.specs.Definitions.Sharing.{tests_of, met_in, finished_in, in_all, turns, turns_at, share_of, paid, shares_of, granted, share_call, Numbers, Carried, numbers_of, absent, carried, lent_after}
 use Rattle.semantics.specs.Definitions.Sharing as meant
-use Rattle.semantics.specs.Theorems.Records.{words_long}
+use Rattle.semantics.proofs.Theorems.Records.{words_long}
 use Rattle.allowance.specs.Allowance.{more-turns}
 use Rattle.allowance.specs.Shares.{no_sheet, met-more, share, shares_long, share-at, shares_total, share_tests, shares_fair, shares_behind}
 use Rattle.allowance.specs.ShareCall.{AllRead, reached, Granted, share_granted}

@@ -9,13 +9,16 @@ use Rattle.semantics.specs.Definitions.Returned.{accepted}
 use Rattle.semantics.specs.Definitions.Check.{of_sheet}
 use Rattle.semantics.specs.Definitions.Sharing.{turns_at, paid, shares_of, granted, denied, share_call, carried, lent_after}
 use Rattle.semantics.specs.Definitions.Sharing as meant
-use Rattle.semantics.specs.Theorems.Source.{sheet_refused}
-use Rattle.semantics.specs.Theorems.Places.{SheetRefusal, refusal_number, refusal_place}
-use Rattle.semantics.specs.Theorems.Check.{Refuses, opened_refuses}
-use Rattle.semantics.specs.Theorems.TwoSections.{two_sections_short}
+use Rattle.semantics.proofs.Theorems.Source.{sheet_refused}
+use Rattle.semantics.specs.Theorems.Places.{SheetRefusal}
+use Rattle.semantics.proofs.Theorems.Places.{refusal_number, refusal_place}
+use Rattle.semantics.specs.Theorems.Check.{Refuses}
+use Rattle.semantics.proofs.Theorems.Check.{opened_refuses}
+use Rattle.semantics.proofs.Theorems.TwoSections.{two_sections_short}
 use Rattle.semantics.specs.Theorems.WorldView.{WorldView}
-use Rattle.semantics.specs.Theorems.Tally.{Number, is_tally}
-use Rattle.semantics.specs.Theorems.Listing.{listing-many}
+use Rattle.semantics.specs.Theorems.Tally.{Number}
+use Rattle.semantics.proofs.Theorems.Tally.{is_tally}
+use Rattle.semantics.proofs.Theorems.Listing.{listing-many}
 use Rattle.allowance.specs.Shares.{no_sheet, met_few}
 use Rattle.allowance.specs.ShareCall.{AllRead, SheetRefused, reached, Denied, share_granted, share_denied}
 use Rattle.allowance.specs.Carried.{Reached, met, reached_so, reached-only}

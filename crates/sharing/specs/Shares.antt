@@ -1,15 +1,17 @@
 -- Document 02, K4, of the call `share`: the share of each sheet, and the records in its buffer. Assumes nothing.
 use Rattle.std.specs.Prelude.{ℕ, ◌*◌, ◌/◌, ◌^◌, ◌≤◌, ◌<◌, ◌≡◌, refl, true, false, List, [], ◌∷◌, ◌++◌, map, ◌↔◌, length, get_or, take, drop}
-use Rattle.std.proofs.Common.{sym, ap, ◌∙◌, subst, append_nil, append_assoc, arith, take_at, drop_at}
+use Rattle.std.proofs.Common.{sym, ap, ◌∙◌, subst, append-nil, append_assoc, arith, take_at, drop_at}
 use Rattle.sets.specs.Lists.{◌among◌, no_members, flat_append}
 use Rattle.semantics.specs.Definitions.Setting.{Setting, k}
 use Rattle.semantics.specs.Definitions.Returned.{written}
 use Rattle.semantics.specs.Definitions.Listing.{View, record_of, words, listing}
 use Rattle.semantics.specs.Definitions.Sharing.{tests_of, met_in, finished_in, share_call, carried, lent_after}
-use Rattle.semantics.specs.Theorems.Tally.{Tested, dec_tested, Number, number_only, is_tally}
-use Rattle.semantics.specs.Theorems.Order.{among-order}
-use Rattle.semantics.specs.Theorems.Listing.{views_of}
-use Rattle.semantics.specs.Theorems.Records.{RecordsOf, of_records, words_long}
+use Rattle.semantics.specs.Theorems.Tally.{Tested, Number}
+use Rattle.semantics.proofs.Theorems.Tally.{dec_tested, number_only, is_tally}
+use Rattle.semantics.proofs.Theorems.Order.{among-order}
+use Rattle.semantics.proofs.Theorems.Listing.{views_of}
+use Rattle.semantics.specs.Theorems.Records.{RecordsOf}
+use Rattle.semantics.proofs.Theorems.Records.{of_records, words_long}
 use Rattle.allowance.specs.RecordsMet.{RecordsMet, records_met}
 use Rattle.allowance.specs.Shares.{among_tests, tests_number, none_remains, finished_exactly, finished_many, finished_whole, met_begins}
 use Rattle.sharing.specs.declared.result.Share.{Share}
@@ -88,7 +90,7 @@ module _ (u : Setting) (t count allowance : ℕ) (few : t ≤ length (tests_of u
       let vs = met_in u t in
       let (more, e) = met_begins u t in
       ap (take (4 * length vs)) left ∙ take_at (words vs) (drop (length (words vs)) before) (4 * length vs) (words_long vs)
-      ∙ sym (ap (λ l. take (4 * length vs) (words l)) e ∙ ap (take (4 * length vs)) (sym (append_nil (words (vs ++ more)))) ∙ begins vs more [])
+      ∙ sym (ap (λ l. take (4 * length vs) (words l)) e ∙ ap (take (4 * length vs)) (sym (append-nil (words (vs ++ more)))) ∙ begins vs more [])
 
   all_tests : (n : ℕ) → Number u (Tested u) n → (t ≤ n) × ((finished_in u t ≡ true) ↔ (t ≡ n))
   all_tests n m =

@@ -1,4 +1,6 @@
 // Up to four sheets on one allowance of tests (document 02, K4): the call `share`.
+#![tactic(auto)]
+
 mod result;
 mod rooms;
 mod serve;

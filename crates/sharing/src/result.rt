@@ -1,7 +1,7 @@
 // What a shared call answers.
 
 // Of a sheet: whether no guess that would be tested is left, its tests, and the views that it met in them.
-#[derive(Drop)]
+#[derive(Clone, Copy)]
 pub struct Share {
     pub finished: bool,
     pub tests: usize,
@@ -9,7 +9,7 @@ pub struct Share {
 }
 
 // The tests of all sheets, and the share of each. One that is not there is finished, with no tests and no views.
-#[derive(Drop)]
+#[derive(Clone, Copy)]
 pub struct Shares {
     pub tests: usize,
     pub first: Share,
@@ -19,7 +19,7 @@ pub struct Shares {
 }
 
 // The shares; or a refusal by its number, its place (for 9: the number of views reached) and the sheet's position from 0.
-#[derive(Drop)]
+#[derive(Clone, Copy)]
 pub enum Shared {
     Accepted(Shares),
     Refused {

@@ -47,7 +47,7 @@ pub fn read_sheets<'a>(
 }
 
 // A refusal with the sheet's position, or none.
-#[derive(Drop)]
+#[derive(Clone, Copy)]
 pub enum Refusal {
     None,
     At {

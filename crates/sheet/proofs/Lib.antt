@@ -1,3 +1,8 @@
--- What several proofs cite: laws of steps and their readings, and of the loops that take a step once a turn.
+-- What several proofs cite, and what a loop's invariant and its answers share: laws of steps and their readings, and the loops.
 pub mod Laws
 pub mod Loops
+pub mod NameSought
+pub mod NameLoop
+pub mod MaskLoop
+pub mod RuleLoop
+pub mod PairLoop

@@ -1,4 +1,6 @@
 // The bytes of a sheet: whether it is accepted, and what is kept of it. `present` and `word` read a calendar's bytes too.
+#![tactic(auto)]
+
 mod fields;
 mod names;
 mod opposites;
@@ -16,7 +18,7 @@ use sets::size;
 use steps::Field;
 
 // What is kept of an accepted sheet.
-#[derive(Drop)]
+#[derive(Clone, Copy)]
 pub struct Contents {
     pub atoms: usize,
     pub rules: usize,
@@ -30,7 +32,7 @@ pub struct Contents {
 }
 
 // What opening a sheet answers.
-#[derive(Drop)]
+#[derive(Clone, Copy)]
 pub enum Opened {
     Accepted(Contents),
     Refused(u8, usize),

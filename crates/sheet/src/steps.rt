@@ -1,7 +1,7 @@
 // What a reading step takes and answers.
 
 // Where a reading stands, and what it has read so far.
-#[derive(Drop)]
+#[derive(Clone, Copy)]
 pub struct Cursor {
     // the next place
     pub at: usize,
@@ -16,7 +16,7 @@ pub struct Cursor {
 }
 
 // What a reading step answers: a field, as the number that it holds or counts, and the cursor after it; or a refusal, by number and place.
-#[derive(Drop)]
+#[derive(Clone, Copy)]
 pub enum Field {
     Got(usize, Cursor),
     Refused(u8, usize),

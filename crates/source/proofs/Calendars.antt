@@ -16,13 +16,15 @@ use Rattle.semantics.specs.Definitions.Calendar.{Entry, last_minute, most_entrie
 use Rattle.semantics.specs.Definitions.Returned.{accepted}
 use Rattle.semantics.specs.Definitions.Day.{under}
 use Rattle.semantics.specs.Words.{program_room, pairs_written, rules_in}
-use Rattle.semantics.specs.Theorems.Accepted.{accepted_read}
-use Rattle.semantics.specs.Theorems.CalendarExact.{calendar-read}
-use Rattle.semantics.specs.Theorems.InForce.{AllProper, ∈-rules_in_force}
-use Rattle.semantics.specs.Theorems.Minute.{minute_fits}
-use Rattle.semantics.specs.Theorems.Opposites.{opposed_below, pairs_as_rules}
-use Rattle.semantics.specs.Theorems.Day.{under_nothing}
-use Rattle.semantics.specs.Theorems.CalendarCalls.{Both, TurnedAway, minute_given, minute_refused}
+use Rattle.semantics.proofs.Theorems.Accepted.{accepted_read}
+use Rattle.semantics.proofs.Theorems.CalendarExact.{calendar-read}
+use Rattle.semantics.specs.Theorems.InForce.{AllProper}
+use Rattle.semantics.proofs.Theorems.InForce.{∈-rules_in_force}
+use Rattle.semantics.proofs.Theorems.Minute.{minute_fits}
+use Rattle.semantics.proofs.Theorems.Opposites.{opposed_below, pairs_as_rules}
+use Rattle.semantics.proofs.Theorems.Day.{under_nothing}
+use Rattle.semantics.specs.Theorems.CalendarCalls.{Both, TurnedAway}
+use Rattle.semantics.proofs.Theorems.CalendarCalls.{minute_given, minute_refused}
 use Rattle.sheet.specs.declared.Contents.{Contents}
 use Rattle.sheet.specs.declared.Opened.TheVariants as answers
 use Rattle.sheet.specs.Opened.{contents, opened_of, opened_as, opened_refused, Holds}

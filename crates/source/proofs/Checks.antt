@@ -6,7 +6,7 @@ use mathlib.Core.Logic.{inl, inr}
 use Rattle.semantics.specs.Definitions.Setting.{Setting, k}
 use Rattle.semantics.specs.Definitions.Returned.{Returned}
 use Rattle.semantics.specs.Definitions.Calls.{provided_below}
-use Rattle.semantics.specs.Theorems.Source.{below_accepted, below_refused}
+use Rattle.semantics.proofs.Theorems.Source.{below_accepted, below_refused}
 use Rattle.guess.specs.declared.outline.Outline.{Outline}
 use Rattle.guess.specs.Programs.{setting_in, Outlines}
 use Rattle.source.specs.declared.Source.{Source}

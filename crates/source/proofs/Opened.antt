@@ -15,12 +15,12 @@ use Rattle.semantics.specs.Definitions.Check.{opposed, setting, opened, of_sheet
 use Rattle.semantics.specs.Definitions.Day.{under, masks_fit, of_day}
 use Rattle.semantics.specs.Fields.{k_atoms, m_atoms}
 use Rattle.semantics.specs.Words.{program_room, pairs_written, rules_in}
-use Rattle.semantics.specs.Theorems.Accepted.{accepted_read}
-use Rattle.semantics.specs.Theorems.Layout.{accepted_fits}
-use Rattle.semantics.specs.Theorems.Written.{k_atoms-written, m_atoms-written}
-use Rattle.semantics.specs.Theorems.Opposites.{opposed_below, pairs_as_rules}
-use Rattle.semantics.specs.Theorems.Source.{sheet_accepted, sheet_refused}
-use Rattle.semantics.specs.Theorems.DaySource.{dec_fit, not_fit, masks_accepted, masks_refused}
+use Rattle.semantics.proofs.Theorems.Accepted.{accepted_read}
+use Rattle.semantics.proofs.Theorems.Layout.{accepted_fits}
+use Rattle.semantics.proofs.Theorems.Written.{k_atoms-written, m_atoms-written}
+use Rattle.semantics.proofs.Theorems.Opposites.{opposed_below, pairs_as_rules}
+use Rattle.semantics.proofs.Theorems.Source.{sheet_accepted, sheet_refused}
+use Rattle.semantics.proofs.Theorems.DaySource.{dec_fit, not_fit, masks_accepted, masks_refused}
 use Rattle.sheet.specs.declared.Contents.{Contents}
 use Rattle.sheet.specs.declared.Opened.TheVariants as answers
 use Rattle.sheet.specs.Opened.{contents, opened_of, opened_as, opened_refused, Holds}

@@ -1,5 +1,7 @@
 // The source of a call: a sheet under the day's masks, or at a minute, as the rules of a program with K and M in words of the call's own,
 // eight a rule, and their outline; or the refusal that comes before. 568 words have room for 64 rules and 7 pairs.
+#![tactic(auto)]
+
 pub mod minute;
 
 ghost use Rattle.std.specs.Prelude.{◌≡◌, ◌*◌, ◌≤◌, length};
@@ -14,7 +16,7 @@ use opened::load;
 use sets::{meets, power};
 use sheet::{Opened, open};
 
-#[derive(Drop)]
+#[derive(Clone, Copy)]
 pub enum Source {
     Accepted(Outline),
     Refused(u8, usize),

@@ -11,7 +11,7 @@ use opened::load_only;
 use sheet::{Contents, Opened, open};
 
 // What a sheet says, and how many entries of its calendar stand in words; or the refusal of one of them.
-#[derive(Drop)]
+#[derive(Clone, Copy)]
 pub enum Scheduled {
     Accepted(Contents, usize),
     Refused(u8, usize),

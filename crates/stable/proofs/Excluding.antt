@@ -6,8 +6,8 @@ use mathlib.Core.List.{List}
 use mathlib.Core.Logic.{inl, inr, ⊎_elim}
 use native.Mathlib.Nat.{eq-zero-or-pos}
 use native.Mathlib.Omega.{arith}
-use lib.ListN.{length, get_or, set, length_set}
-use lib.Seq.{get_or_set_same, get_or_set_other}
+use lib.ListN.{length, get_or, set, length-set}
+use lib.Seq.{get_or-set_same, get_or-set_other}
 use Rattle.sets.specs.Decides.{decided, dec_imp, dec_eq}
 use Rattle.sets.specs.Lists.{◌among◌, up_to, among-map, among-up_to}
 use Rattle.sets.specs.Sets.{◌∈◌, ◌⊆◌, ◌⊂◌, Meets, ◌meets?◌, ◌∩◌, ◌∪◌, ◌∖◌, ∅, single}
@@ -16,7 +16,7 @@ use Rattle.sets.specs.One.{OneOf}
 use Rattle.semantics.specs.Definitions.Rules.{Rule}
 use Rattle.semantics.specs.Words.{rule_in, program_in}
 use Rattle.semantics.specs.Definitions.Day.{allowed}
-use Rattle.semantics.specs.Theorems.Day.{dec_allowed}
+use Rattle.semantics.proofs.Theorems.Day.{dec_allowed}
 use Rattle.stable.specs.Nogoods.{Excludes, has_in, lacks_in, kept, Nogoods, Blocked, Blocks, SatisfiedIn}
 
 -- no member is left
@@ -119,13 +119,13 @@ module _ (ins outs : ℕ) (p : List Rule) where
       once = set words (2 * n) x
 
       has : has_in (set once (2 * n + 1) y) n ≡ x
-      has = get_or_set_other once (2 * n + 1) (2 * n) y 0 (omega arith) ∙ get_or_set_same words (2 * n) x 0 (omega arith)
+      has = get_or-set_other once (2 * n + 1) (2 * n) y 0 (omega arith) ∙ get_or-set_same words (2 * n) x 0 (omega arith)
 
       lacks : lacks_in (set once (2 * n + 1) y) n ≡ y
-      lacks = get_or_set_same once (2 * n + 1) y 0 (omega (arith, length_set words (2 * n) x))
+      lacks = get_or-set_same once (2 * n + 1) y 0 (omega (arith, length-set words (2 * n) x))
 
       stays_at : (m : ℕ) → (m ≡ 2 * n → ⊥) → (m ≡ 2 * n + 1 → ⊥) → get_or (set once (2 * n + 1) y) m 0 ≡ get_or words m 0
-      stays_at m d e = get_or_set_other once (2 * n + 1) m y 0 (omega arith) ∙ get_or_set_other words (2 * n) m x 0 (omega arith)
+      stays_at m d e = get_or-set_other once (2 * n + 1) m y 0 (omega arith) ∙ get_or-set_other words (2 * n) m x 0 (omega arith)
 
       same : Excludes ins outs p (has_in (set once (2 * n + 1) y) n) (lacks_in (set once (2 * n + 1) y) n)
       same = rw (has, lacks) r
@@ -136,4 +136,4 @@ module _ (ins outs : ℕ) (p : List Rule) where
   -- a word behind them
   pub behind : (words : List ℕ) (m v : ℕ) → 2 * kept ≤ m → Nogoods ins outs p words → Nogoods ins outs p (set words m v)
   behind words m v l f k b =
-      rw (get_or_set_other words m (2 * k) v 0 (omega arith), get_or_set_other words m (2 * k + 1) v 0 (omega arith)) (f k b)
+      rw (get_or-set_other words m (2 * k) v 0 (omega arith), get_or-set_other words m (2 * k + 1) v 0 (omega arith)) (f k b)

@@ -14,7 +14,8 @@ use Rattle.sets.specs.Sets.{◌∈◌, ◌⊆◌, ◌⊆?◌, ◌∩◌, ◌∪�
 use Rattle.sets.specs.Members.{∈-∅, ∈-∪, ∈-∖, ∈-single, ∪-⊆, ⊆_refl, ⊆_trans, ⊆_antisym, dec_⊆}
 use Rattle.semantics.specs.Definitions.Rules.{Rule}
 use Rattle.sets.specs.One.{OneOf}
-use Rattle.semantics.specs.Theorems.Stable.{Model, dec_smaller}
+use Rattle.semantics.specs.Theorems.Stable.{Model}
+use Rattle.semantics.proofs.Theorems.Stable.{dec_smaller}
 use Rattle.semantics.specs.Theorems.SingleHeads.{Positive}
 use Rattle.stable.specs.Applied.{positive_in, positive_program_in}
 use Rattle.stable.specs.Growth.{OneIn, ClosedIn, Grown, Grows, Supported}

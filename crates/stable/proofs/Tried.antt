@@ -8,7 +8,8 @@ use Rattle.sets.specs.Decides.{is_false}
 use Rattle.sets.specs.Sets.{◌⊆◌, ◌⊂◌, ◌∩◌, ◌∪◌, ◌∖◌}
 use Rattle.sets.specs.Members.{⊆_refl, ⊆_le, ⊂_less, ∩-⊆, none_between, next_less}
 use Rattle.semantics.specs.Definitions.Rules.{Rule}
-use Rattle.semantics.specs.Theorems.Stable.{Model, dec_smaller}
+use Rattle.semantics.specs.Theorems.Stable.{Model}
+use Rattle.semantics.proofs.Theorems.Stable.{dec_smaller}
 use Rattle.semantics.specs.Theorems.SingleHeads.{Positive}
 use Rattle.stable.specs.Growth.{Grown}
 use Rattle.stable.specs.Smaller.{SmallerOr, beyond_smaller, only_beyond}

@@ -2,19 +2,20 @@
 use Prim.Native.Nat.{ℕ, ◌+◌, ◌*◌, ◌≤◌, ◌<◌}
 use mathlib.Core.Path.{◌≡◌, refl, sym, ap, ap₂, ◌∙◌}
 use mathlib.Core.Bool.{Bool, true, false, not, ◌&&◌, true≢false}
-use mathlib.Core.List.{List, [], ◌∷◌, ◌++◌, append_nil, map, map-append}
+use mathlib.Core.List.{List, [], ◌∷◌, ◌++◌, append-nil, map, map-append}
 use native.Mathlib.Omega.{arith}
 use native.Mathlib.Numerals.{add-one}
 use borrow.Author.Tests.{ltb-true}
 use lib.Dec.{ltb}
-use lib.ListN.{length, get_or, set, length_set}
-use lib.Seq.{get_or_set_same, get_or_set_other}
+use lib.ListN.{length, get_or, set, length-set}
+use lib.Seq.{get_or-set_same, get_or-set_other}
 use Rattle.sets.specs.Decides.{Decides, is_true, is_false}
 use Rattle.sets.specs.Lists.{keep, only, up_to, keep_snoc, map_up_to_suc, map_up_to_same, dec_each}
 use Rattle.sets.specs.Sets.{◌meets?◌, ∅}
 use Rattle.semantics.specs.Words.{rule_in, program_in, program-more}
 use Rattle.semantics.specs.Definitions.Stable.{satisfies, is_model, positive, smaller_model, stable}
-use Rattle.semantics.specs.Theorems.Stable.{Model, dec_model}
+use Rattle.semantics.specs.Theorems.Stable.{Model}
+use Rattle.semantics.proofs.Theorems.Stable.{dec_model}
 use Rattle.stable.specs.Applied.{applies, applied, positive_in, positive_program_in}
 use Rattle.stable.specs.Search.{stable_by_search, applied_model}
 use Rattle.stable.specs.Tested.{ReducedBy}
@@ -95,16 +96,16 @@ written out n head plain l =
 
     other : (k : ℕ) → k < 2 * n → get_or new k 0 ≡ get_or out k 0
     other k h =
-        get_or_set_other (set out (2 * n) head) (2 * n + 1) k plain 0 (omega arith)
-        ∙ get_or_set_other out (2 * n) k head 0 (omega arith)
+        get_or-set_other (set out (2 * n) head) (2 * n + 1) k plain 0 (omega arith)
+        ∙ get_or-set_other out (2 * n) k head 0 (omega arith)
 
     kept : (k : ℕ) → k < n → positive_in new k ≡ positive_in out k
     kept k h = rw (other (2 * k) (omega arith), other (2 * k + 1) (omega arith))
 
     last : positive_in new n ≡ record { head = head; plain = plain; nots = ∅; not_nots = ∅ }
     last = ap₂ (λ a b. record { head = a; plain = b; nots = ∅; not_nots = ∅ })
-        (get_or_set_other (set out (2 * n) head) (2 * n + 1) (2 * n) plain 0 (omega arith) ∙ get_or_set_same out (2 * n) head 0 (omega arith))
-        (get_or_set_same (set out (2 * n) head) (2 * n + 1) plain 0 (omega (arith, length_set out (2 * n) head)))
+        (get_or-set_other (set out (2 * n) head) (2 * n + 1) (2 * n) plain 0 (omega arith) ∙ get_or-set_same out (2 * n) head 0 (omega arith))
+        (get_or-set_same (set out (2 * n) head) (2 * n + 1) plain 0 (omega (arith, length-set out (2 * n) head)))
 
 module _ (words out : List ℕ) (i j n : ℕ) (e : positive_program_in out n ≡ applied i (program_in words j)) where
   pub wrote : 2 * n + 2 ≤ length out → applies i (rule_in words j) ≡ true
@@ -114,7 +115,7 @@ module _ (words out : List ℕ) (i j n : ℕ) (e : positive_program_in out n ≡
       written out n (get_or words (4 * j) 0) (get_or words (4 * j + 1) 0) l ∙ rw (e, more words i j, t, z)
 
   pub passed : applies i (rule_in words j) ≡ false → positive_program_in out n ≡ applied i (program_in words (j + 1))
-  passed t = rw (more words i j, t) (e ∙ sym (append_nil _))
+  passed t = rw (more words i j, t) (e ∙ sym (append-nil _))
 
 pub nothing_written : (words out : List ℕ) (i : ℕ) → positive_program_in out 0 ≡ applied i (program_in words 0)
 unfolding positive_program_in applied program_in up_to keep

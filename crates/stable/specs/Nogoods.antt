@@ -11,8 +11,10 @@ use Rattle.sets.specs.One.{OneOf}
 use Rattle.semantics.specs.Definitions.Rules.{Rule}
 use Rattle.semantics.specs.Definitions.Stable.{stable}
 use Rattle.semantics.specs.Definitions.Day.{allowed, stable_under}
-use Rattle.semantics.specs.Theorems.Stable.{NegationsHold, Stable, dec_stable, reduced_model}
-use Rattle.semantics.specs.Theorems.Day.{Allowed, dec_allowed}
+use Rattle.semantics.specs.Theorems.Stable.{NegationsHold, Stable}
+use Rattle.semantics.proofs.Theorems.Stable.{dec_stable, reduced_model}
+use Rattle.semantics.specs.Theorems.Day.{Allowed}
+use Rattle.semantics.proofs.Theorems.Day.{dec_allowed}
 use Rattle.stable.specs.Search.{Applies, reduct_model}
 
 -- no set that has every atom of x and none of y is a stable set that the masks allow

@@ -6,7 +6,8 @@ use Rattle.sets.specs.Sets.{◌⊆◌, Meets, ◌⊆?◌, ◌meets?◌, ◌∪�
 use Rattle.sets.specs.Members.{∈-∅, ∅-⊆, ⊆_trans, dec_⊆, dec_meets, ∪-⊆}
 use Rattle.semantics.specs.Definitions.Rules.{Rule}
 use Rattle.semantics.specs.Definitions.Stable.{satisfies, is_model, reduct_at, smaller_model, stable}
-use Rattle.semantics.specs.Theorems.Stable.{NegationsHold, Model, ReducedModel, dec_negations, dec_model, dec_smaller, dec_stable, positive_model, reduced_model}
+use Rattle.semantics.specs.Theorems.Stable.{NegationsHold, Model, ReducedModel}
+use Rattle.semantics.proofs.Theorems.Stable.{dec_negations, dec_model, dec_smaller, dec_stable, positive_model, reduced_model}
 use Rattle.stable.specs.Applied.{applies, applied}
 
 -- all body literals of the rule hold in i

@@ -16,9 +16,12 @@ use Rattle.semantics.specs.Definitions.Check.{setting}
 use Rattle.semantics.specs.Definitions.Stable.{is_model, positive, reduct_at, smaller_model, stable}
 use Rattle.semantics.specs.Definitions.Day.{allowed, stable_under}
 use Rattle.semantics.specs.Definitions.LeastModel.{single_heads, least_model}
-use Rattle.semantics.specs.Theorems.Stable.{NegationsHold, Model, dec_model, dec_smaller, among-positive}
-use Rattle.semantics.specs.Theorems.LeastModel.{Closed, least_is, least-only}
-use Rattle.semantics.specs.Theorems.SingleHeads.{Positive, SingleHeads, reduced_closed, sheet-single}
+use Rattle.semantics.specs.Theorems.Stable.{NegationsHold, Model}
+use Rattle.semantics.proofs.Theorems.Stable.{dec_model, dec_smaller, among-positive}
+use Rattle.semantics.specs.Theorems.LeastModel.{Closed}
+use Rattle.semantics.proofs.Theorems.LeastModel.{least_is, least-only}
+use Rattle.semantics.specs.Theorems.SingleHeads.{Positive, SingleHeads}
+use Rattle.semantics.proofs.Theorems.SingleHeads.{reduced_closed, sheet-single}
 use Rattle.stable.specs.Applied.{applies, applied}
 use Rattle.stable.specs.Search.{Applies, dec_applies, applied_model, stable_by_search}
 use Rattle.stable.specs.Growth.{OneIn, TwoHeads, ClosedIn, Grown, narrowed}

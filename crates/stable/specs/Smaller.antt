@@ -1,6 +1,6 @@
 -- Document 02, K6: what was grown in a set, and the smaller models. Assumes nothing.
 use Rattle.std.specs.Prelude.{ℕ, ◌<◌, ◌≡◌, false, not, List, ◌↔◌, eqb, ltb}
-use Rattle.std.proofs.Common.{sym, ap, subst, ◌∙◌, inl, inr, ⊎_elim, lt_of_not_le}
+use Rattle.std.proofs.Common.{sym, ap, subst, ◌∙◌, inl, inr, ⊎_elim, lt_of_not-le}
 use Rattle.sets.specs.Decides.{decided, dec_one, dec_iff, dec_not, dec_eq, dec_le, dec_lt}
 use Rattle.sets.specs.Lists.{◌among◌, dec_some}
 use Rattle.sets.specs.Sets.{◌∈◌, ◌⊆◌, ◌⊂◌, Meets, ◌∩◌, ◌∪◌, ◌∖◌, single, size}
@@ -8,8 +8,10 @@ use Rattle.sets.specs.Members.{dec_∈, ∈_ext, ∈-∩, ∈-∪, ∈-∖, ∈-
 use Rattle.sets.specs.One.{only_one, another}
 use Rattle.semantics.specs.Definitions.Rules.{Rule}
 use Rattle.semantics.specs.Definitions.Stable.{smaller_model}
-use Rattle.semantics.specs.Theorems.Stable.{Model, dec_smaller}
-use Rattle.semantics.specs.Theorems.SingleHeads.{Positive, negations_hold_lem}
+use Rattle.semantics.specs.Theorems.Stable.{Model}
+use Rattle.semantics.proofs.Theorems.Stable.{dec_smaller}
+use Rattle.semantics.specs.Theorems.SingleHeads.{Positive}
+use Rattle.semantics.proofs.Theorems.SingleHeads.{negations_hold_lem}
 use Rattle.stable.specs.Growth.{OneIn, TwoHeads, ClosedIn, Grown, Supported}
 
 -- r is a smaller model, or i itself where there is none
@@ -57,7 +59,7 @@ module _ {p : List Rule} (plain_only : Positive p) where
     grown_model g m none r k b =
         let h = satisfied m r k (⊆_trans b.0 (grown_within g)) in
         let a = (∈-∩ h.common r.head i).1 (h.left, h.right) in
-        let one : OneIn i r = ⊎_elim (λ l. l) (λ l. absurd (none (r, k, lt_of_not_le l))) (decided (dec_le (size (r.head ∩ i)) 1)) in
+        let one : OneIn i r = ⊎_elim (λ l. l) (λ l. absurd (none (r, k, lt_of_not-le l))) (decided (dec_le (size (r.head ∩ i)) 1)) in
         record { common = h.common; left = h.left; right = (g.closed r k one b.0).into a }
 
     pub two_heads : {l : ℕ} → Grown p i l → Model p i → (Model p l → ⊥) → TwoHeads p i
@@ -81,7 +83,7 @@ module _ {p : List Rule} (plain_only : Positive p) where
             head_meets h.common q (λ e. f (r, k, o, subst (λ z. z ∈ r.head ∩ i) e q))
 
         several : (OneIn i r → ⊥) → Meets r.head (i ∖ single a)
-        several n = let (c, q, d) = another a (lt_of_not_le n) in head_meets c q d
+        several n = let (c, q, d) = another a (lt_of_not-le n) in head_meets c q d
 
     -- where no rule has two head atoms in the set: there is a smaller model exactly where i is not grown whole
     pub growth_decides : {l : ℕ} → Grown p i l → Model p i → (TwoHeads p i → ⊥) → smaller_model p i ≡ not (eqb l i)

@@ -1,4 +1,6 @@
 // The stability test of a program without K and M, held in words, four a rule (`program_in` of semantics/specs/Words.antt).
+#![tactic(auto)]
+
 pub mod growth;
 pub mod nogood;
 pub mod reduced;
@@ -16,7 +18,7 @@ use sets::has_and_lacks;
 use smaller::smaller_model;
 
 // What judging a set answers: it is stable and allowed; or it is not, with a nogood.
-#[derive(Drop)]
+#[derive(Clone, Copy)]
 enum Judged {
     Stable,
     Excluded(Nogood),

@@ -11,7 +11,7 @@ ghost use Rattle.stable.specs.Nogoods.{Excludes, has_in, lacks_in, kept, nogood_
 use sets::{has_and_lacks, highest, meets, minus};
 
 // No set that has every atom of `has` and none of `lacks` is a stable set that the masks allow.
-#[derive(Drop)]
+#[derive(Clone, Copy)]
 pub struct Nogood {
     pub has: u16,
     pub lacks: u16,

@@ -7,7 +7,7 @@ ghost use Rattle.stable.specs.Tested.{ReducedBy};
 use sets::{has_and_lacks, meets};
 
 // What reducing by a set answers: the set is a model, and so many rules are written; or a rule, by number, is not satisfied in it.
-#[derive(Drop)]
+#[derive(Clone, Copy)]
 pub enum Reduced {
     Model(usize),
     Fails(usize),

@@ -2,17 +2,17 @@
 use Prim.Native.Nat.{ℕ, ◌+◌, ◌*◌, ◌/◌, ◌%◌, ◌^◌, ◌≤◌, ◌<◌}
 use mathlib.Core.Path.{◌≡◌, refl, sym, ap, ◌∙◌, subst}
 use mathlib.Core.Bool.{true, false}
-use mathlib.Core.List.{List, [], ◌∷◌, ◌++◌, map, append_nil}
+use mathlib.Core.List.{List, [], ◌∷◌, ◌++◌, map, append-nil}
 use mathlib.Core.Logic.{⊎_elim}
 use native.Mathlib.Omega.{arith}
 use native.Mathlib.Numerals.{add-one}
-use native.Mathlib.Nat.{lt_of_not_le}
+use native.Mathlib.Nat.{lt_of_not-le}
 use lib.ListN.{length, get_or, get_or-eq_default}
 use Rattle.sets.specs.Decides.{decided, dec_le}
 use Rattle.sets.specs.Lists.{keep, keep_snoc, up_to, length-up_to, nowhere}
 use Rattle.sets.specs.Counting.{keep_shorter}
-use Rattle.sets.specs.Sets.{◌∈◌, ◌∈?◌}
-use Rattle.sets.specs.Members.{dec_∈, ∈-∅}
+use Rattle.sets.specs.Sets.{◌∈◌}
+use Rattle.sets.specs.Members.{∈-∅}
 use Rattle.semantics.specs.Definitions.Setting.{Setting}
 use Rattle.semantics.specs.Definitions.Sheet.{rule_of_masks, most_atoms}
 use Rattle.semantics.specs.Definitions.Stable.{stable, stable_sets}
@@ -20,27 +20,21 @@ use Rattle.semantics.specs.Definitions.Verdict.{belief_sets}
 use Rattle.semantics.specs.Definitions.Day.{allowed}
 use Rattle.semantics.specs.Words.{rules_in}
 use Rattle.semantics.specs.AtSet.{need, StableBy}
-use Rattle.semantics.specs.Theorems.AtSet.{allowed-gathered}
+use Rattle.semantics.proofs.Theorems.AtSet.{disallowed_unstable, allowed-gathered}
 use Rattle.guess.specs.declared.outline.Outline.{Outline}
 use Rattle.guess.specs.Programs.{unmasked_in, setting_in, Outlines}
 use Rattle.guess.specs.Numbered.{masks_below}
-use Rattle.lanes.specs.Planes.{◌in-plane◌, Plane}
+use Rattle.lanes.specs.Planes.{◌in_plane◌, Plane}
 use Rattle.lanes.specs.Noted.{Entry, entry_at}
-use Rattle.lanes.specs.Tried.{Tried}
 use Rattle.lanes.specs.Summary.{Stands, stands_more}
 use Rattle.gather.specs.Gathers.{at_set}
-use Rattle.candidates.specs.Candidates.{Candidates}
-use Rattle.ruling.specs.Free.{Free}
-use Rattle.table.specs.Tables.{Blank, Filled, Tabled}
+use Rattle.table.specs.Tried.{Tried}
+use Rattle.table.specs.Tables.{Blank, Free, Filled, Tabled}
 
 -- a plane has no number beyond its words
-below_plane : {g : ℕ} {l : List ℕ} → g in-plane l → g < 64 * length l
+below_plane : {g : ℕ} {l : List ℕ} → g in_plane l → g < 64 * length l
 below_plane {g} {l} p =
-    ⊎_elim (λ h. absurd (∈-∅ (subst (λ z. g % 64 ∈ z) (get_or-eq_default l 0 h) p.held))) (λ n. let h = lt_of_not_le n in omega arith) (decided (dec_le (length l) (g / 64)))
-
--- a word of candidates serves the sets up to its end
-pub sets_stay : {x : Outline} {words : List ℕ} {sets : ℕ} (i : ℕ) → Candidates x words (i / 64) sets → 0 < (i + 1) % 64 → Candidates x words ((i + 1) / 64) sets
-sets_stay i c h = let e : (i + 1) / 64 ≡ i / 64 = omega arith in rw e c
+    ⊎_elim (λ h. absurd (∈-∅ (subst (λ z. g % 64 ∈ z) (get_or-eq_default l 0 h) p.held))) (λ n. let h = lt_of_not-le n in omega arith) (decided (dec_le (length l) (g / 64)))
 
 module _ (x : Outline) (words first : List ℕ) where
   abbrev s : Setting
@@ -53,8 +47,8 @@ module _ (x : Outline) (words first : List ℕ) where
   -- after the sets below i
   pub record After (i : ℕ) (active table : List ℕ) : Type 0 where
     pub long : length active ≡ length first
-    pub within : {g : ℕ} → g < 64 * length first → g in-plane active → g in-plane first
-    pub stands : {g : ℕ} → g < 64 * length first → g in-plane first → Stands x.atoms (need (unmasked_in x words)) g (stable_below g i) (g in-plane active) (entry_at table g)
+    pub within : {g : ℕ} → g < 64 * length first → g in_plane active → g in_plane first
+    pub stands : {g : ℕ} → g < 64 * length first → g in_plane first → Stands x.atoms (need (unmasked_in x words)) g (stable_below g i) (g in_plane active) (entry_at table g)
 
   -- before any set
   pub after_none : {table : List ℕ} → Blank (64 * length first) x.atoms table → After 0 first table
@@ -67,7 +61,7 @@ module _ (x : Outline) (words first : List ℕ) where
 
   module _ {i : ℕ} {active table : List ℕ} (a : After i active table) where
     -- there is room for one set more
-    pub room_left : i < 2 ^ most_atoms → (g : ℕ) → g in-plane active → get_or table (3 * g + 2) 0 < 65535
+    pub room_left : i < 2 ^ most_atoms → (g : ℕ) → g in_plane active → get_or table (3 * g + 2) 0 < 65535
     room_left h g m =
         let l : g < 64 * length first = omega (arith, a.long, below_plane m) in
         let e = ap (λ (y : Entry). y.number) ((a.stands l (a.within l m)).entry m) in
@@ -77,33 +71,29 @@ module _ (x : Outline) (words first : List ℕ) where
     unfolding up_to
     more g = ap (stable_below g) (add-one i)
 
-    module _ (o : Outlines x words) (h : i < 2 ^ x.atoms) {sets : ℕ} (c : Candidates x words (i / 64) sets) where
-      same : 64 * (i / 64) + i % 64 ≡ i
-      same = omega arith
-
-      -- a candidate, which is tried, and another set
-      pub set_tried : {active' table' : List ℕ} → (i % 64 ∈? sets) ≡ true
+    module _ (o : Outlines x words) (h : i < 2 ^ x.atoms) where
+      -- a set that the day's masks allow, and one that they do not
+      pub set_tried : {active' table' : List ℕ} → allowed x.ins x.outs i ≡ true
           → Tried (StableBy (at_set x words i) i) i (need (unmasked_in x words) i) active table active' table' → After (i + 1) active' table'
-      set_tried {active'} {table'} there t = record {
+      set_tried {active'} {table'} ok t = record {
         long = t.long ∙ a.long;
         within = λ {g} l m. a.within l ((t.left {g = g} (omega (arith, a.long))).0 m).0;
         stands = λ {g} l m.
             let k : g < 64 * length active = omega (arith, a.long) in
-            let ok = subst (λ z. allowed x.ins x.outs z ≡ true) same (c.pass (omega arith) ((dec_∈ (i % 64) sets).yes there)) in
             let d = allowed-gathered x.atoms (map rule_of_masks (rules_in words x.rules)) (masks_below o) g i h x.ins x.outs ok in
-            subst (λ vs. Stands x.atoms (need (unmasked_in x words)) g vs (g in-plane active') (entry_at table' g)) (sym (more g ∙ keep_snoc (stable (s.program g)) (up_to i) i))
+            subst (λ vs. Stands x.atoms (need (unmasked_in x words)) g vs (g in_plane active') (entry_at table' g)) (sym (more g ∙ keep_snoc (stable (s.program g)) (up_to i) i))
             (stands_more x.atoms (need (unmasked_in x words)) (stable_below g i) (a.stands l m) d (t.left k)
             (λ p. t.entries.taken (k, p.0, p.1, p.2)) (λ f. t.entries.kept (λ p. f (p.1, p.2, p.3))));
       }
 
-      pub set_passed : (i % 64 ∈? sets) ≡ false → After (i + 1) active table
-      set_passed lacks = record {
+      pub set_passed : allowed x.ins x.outs i ≡ false → After (i + 1) active table
+      set_passed ok = record {
         long = a.long;
         within = a.within;
         stands = λ {g} l m.
-            let d = subst (λ z. stable (s.program g) z ≡ false) same (c.others (omega arith) (rw same h) ((dec_∈ (i % 64) sets).no lacks) g) in
-            subst (λ vs. Stands x.atoms (need (unmasked_in x words)) g vs (g in-plane active) (entry_at table g))
-            (sym (more g ∙ keep_snoc (stable (s.program g)) (up_to i) i ∙ rw d (append_nil _))) (a.stands l m);
+            let d = disallowed_unstable x.atoms (map rule_of_masks (rules_in words x.rules)) (masks_below o) g i h x.ins x.outs ok in
+            subst (λ vs. Stands x.atoms (need (unmasked_in x words)) g vs (g in_plane active) (entry_at table g))
+            (sym (more g ∙ keep_snoc (stable (s.program g)) (up_to i) i ∙ rw d (append-nil _))) (a.stands l m);
       }
 
     -- after all of them

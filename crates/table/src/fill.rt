@@ -1,24 +1,22 @@
-// The table: three words a guess, for the guesses of a plane. Each set of atoms that some guess may make stable is tried once, for all of them.
+// The table: three words a guess, for the guesses of a plane. Each set of atoms is tried once, for all of them.
 ghost use Rattle.std.specs.Prelude.{◌≡◌, ℕ, ◌+◌, ◌*◌, ◌^◌, ◌<◌, ◌≤◌, length, get_or};
 ghost use Rattle.semantics.specs.Definitions.Sheet.{most_atoms};
 ghost use Rattle.semantics.specs.AtSet.{need, StableBy};
 ghost use Rattle.guess.specs.Programs.{unmasked_in, Outlines};
 ghost use Rattle.lanes.specs.Cube.{Table};
-ghost use Rattle.lanes.specs.Planes.{◌in-plane◌};
-ghost use Rattle.lanes.specs.Tried.{Tried};
+ghost use Rattle.lanes.specs.Planes.{◌in_plane◌};
 ghost use Rattle.gather.specs.Digests.{Digested};
 ghost use Rattle.gather.specs.Gathers.{at_set};
+ghost use Rattle.table.specs.Tried.{Tried};
 ghost use Rattle.table.specs.Tables.{Blank, Filled};
 
-use candidates::candidates;
 use gather::digest::digest_all;
 use gather::{Gathered, gather};
 use guess::negations::found;
 use guess::outline::Outline;
 use lanes::cube::patterns;
 use lanes::note_rules;
-use sets::wide::member;
-use sets::{full, power};
+use sets::{full, has_and_lacks, power};
 
 // The entries of the first guesses before any set: every atom known, none possible, no set.
 fn clear(table: &mut [u16], guesses: usize, atoms: usize)
@@ -53,7 +51,7 @@ fn note_set(
 )
     requires table { Table low.now × Outlines x words.now × Digested x words.now digests.now × (i < 2 ^ x.atoms) }
     requires rules_in_bounds { (4 * x.rules ≤ length room.old) × (x.rules ≤ length on.old) × (length stable.old ≡ length active.old) × (length active.old ≤ 1024) }
-    requires active_in_bounds { (192 * length active.old ≤ length table.old) × ((g : ℕ) → g in-plane (λ x. x.now) active → get_or table.old (3 * g + 2) 0 < 65535) }
+    requires active_in_bounds { (192 * length active.old ≤ length table.old) × ((g : ℕ) → g in_plane active.old → get_or table.old (3 * g + 2) 0 < 65535) }
     ensures room_len_unchanged { (length room.new ≡ length room.old) × (length on.new ≡ length on.old) × (length stable.new ≡ length stable.old) }
     ensures tried { Tried (StableBy (at_set x words.now i) i) i (need (unmasked_in x words.now) i) active.old table.old active.new table.new }
 {
@@ -64,7 +62,7 @@ fn note_set(
     note_rules(low, &room[..], n, i, needed, on, stable, active, table);
 }
 
-// All candidates, for the guesses of the plane `active`: no guess makes another set stable. `stable` is room to work in.
+// All sets that the day's masks allow, for the guesses of the plane `active`. `stable` is room to work in.
 pub fn fill(words: &[u16], x: Outline, stable: &mut [u64], active: &mut [u64], table: &mut [u16])
     requires { Outlines x words.now × (length active.old ≤ 64) × (length stable.old ≡ length active.old) × (192 * length active.old ≤ length table.old) }
     ensures stable_len_unchanged { length stable.new ≡ length stable.old }
@@ -78,13 +76,9 @@ pub fn fill(words: &[u16], x: Outline, stable: &mut [u64], active: &mut [u64], t
     let end = power(x.atoms as u16);
     let mut room = [0u16; 284];
     let mut on = [0u64; 71];
-    let mut sets = 0;
     let mut i = 0;
     while i != end {
-        if i % 64 == 0 {
-            sets = candidates(&low, words, x, &digests[..], i / 64);
-        }
-        if member((i % 64) as u64, sets) {
+        if has_and_lacks(i, x.ins, x.outs) {
             note_set(
                 &low,
                 words,

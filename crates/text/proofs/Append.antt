@@ -1,7 +1,7 @@
 -- Text appended to a buffer: nothing, one byte, one text after another. Assumes nothing.
 use Prim.Native.Nat.{ℕ, ◌+◌, ◌≤◌, ◌<◌}
 use mathlib.Core.Path.{◌≡◌, refl, sym, ap, ◌∙◌}
-use mathlib.Core.List.{List, [], ◌∷◌, ◌++◌, append_nil, append_assoc}
+use mathlib.Core.List.{List, [], ◌∷◌, ◌++◌, append-nil, append_assoc}
 use native.Mathlib.Numerals.{add-one}
 use native.Mathlib.Omega.{arith}
 use lib.ListN.{length, take, drop, set, length-append, take-append-drop}
@@ -9,7 +9,7 @@ use lib.Seq.{length-take-le, take-suc-set, drop-set-lt, drop-drop}
 use Rattle.text.specs.Appended.{Appended, Counts}
 
 pub nothing : (at : ℕ) (l : List ℕ) → Appended at [] l l at
-nothing at l = record { next = omega arith; front = sym (append_nil (take at l)); rest = refl }
+nothing at l = record { next = omega arith; front = sym (append-nil (take at l)); rest = refl }
 
 pub one_byte : (at b : ℕ) (l : List ℕ) → at < length l → Appended at (b ∷ []) l (set l at b) (at + 1)
 one_byte at b l h = record { next = omega arith; front = rw add-one (take-suc-set l at b h); rest = drop-set-lt (at + 1) l at b (omega arith) }

@@ -1,7 +1,7 @@
 -- A line, field by field. Assumes nothing.
 use Prim.Native.Nat.{ℕ}
 use mathlib.Core.Path.{◌≡◌, refl, sym, ap, ◌∙◌}
-use mathlib.Core.List.{List, [], ◌∷◌, ◌++◌, append_nil, append_assoc}
+use mathlib.Core.List.{List, [], ◌∷◌, ◌++◌, append-nil, append_assoc}
 use native.Mathlib.Omega.{arith}
 use Rattle.sets.specs.Lists.{flat}
 use Rattle.semantics.specs.Definitions.Program.{line}
@@ -33,7 +33,7 @@ pub record Begun (first : List ℕ) (others : List (List ℕ)) (before after : L
 module _ {first l m : List ℕ} {r : ℕ} where
   pub begin : Appended 0 first l m r → Begun first [] l m r
   unfolding flat
-  begin p = record { text = same_text (sym (append_nil first)) p }
+  begin p = record { text = same_text (sym (append-nil first)) p }
 
 module _ {first l m o : List ℕ} {others : List (List ℕ)} {r r' : ℕ} (b : Begun first others l m r) where
   more : (gs : List (List ℕ)) → Appended r (spaced gs) m o r' → Begun first (others ++ gs) l o r'
@@ -43,7 +43,7 @@ module _ {first l m o : List ℕ} {others : List (List ℕ)} {r r' : ℕ} (b : B
 
   pub one_more : {f : List ℕ} → Appended r (32 ∷ f) m o r' → Begun first (others ++ f ∷ []) l o r'
   unfolding flat
-  one_more {f} p = more (f ∷ []) (same_text (sym (append_nil (32 ∷ f))) p)
+  one_more {f} p = more (f ∷ []) (same_text (sym (append-nil (32 ∷ f))) p)
 
   pub finish : Appended r (10 ∷ []) m o r' → Counts r' o × Holds (line first others) l o r'
   finish p = whole (and_then b.text p)

@@ -3,7 +3,7 @@ use Prim.Native.Nat.{ℕ, zero, suc, ◌+◌, ◌≤◌, ◌<◌}
 use mathlib.Core.Path.{◌≡◌, refl, sym, ap, ap₂, ◌∙◌}
 use mathlib.Core.Bool.{Bool, true, false, cond}
 use mathlib.Core.List.{List, [], ◌∷◌, ◌++◌, map, append_assoc}
-use native.Mathlib.Nat.{le_of_suc_le_suc, not-suc-le-zero}
+use native.Mathlib.Nat.{le_of_suc-le-suc, not-suc-le-zero}
 use native.Mathlib.Numerals.{add-one}
 use native.Mathlib.Omega.{arith}
 use borrow.Author.Tests.{le-leb, lt-leb}
@@ -18,10 +18,10 @@ use Rattle.semantics.specs.Definitions.Check.{opened, said}
 use Rattle.semantics.specs.Definitions.Returned.{accepted}
 use Rattle.semantics.specs.Definitions.Program.{bytes, decimal, names_of, view_line, set_line}
 use Rattle.semantics.specs.Fields.{name_from, after_name, names_from, after_names}
-use Rattle.semantics.specs.Theorems.Fields.{after_names-more, after_names_rises}
-use Rattle.semantics.specs.Theorems.Accepted.{accepted_lies}
-use Rattle.semantics.specs.Theorems.Layout.{accepted_fits}
-use Rattle.semantics.specs.Theorems.Source.{said_accepted}
+use Rattle.semantics.proofs.Theorems.Fields.{after_names-more, after_names_rises}
+use Rattle.semantics.proofs.Theorems.Accepted.{accepted_lies}
+use Rattle.semantics.proofs.Theorems.Layout.{accepted_fits}
+use Rattle.semantics.proofs.Theorems.Source.{said_accepted}
 use Rattle.text.specs.Names.{atoms_in, name_field, member_field, member_fields}
 use Rattle.text.specs.Lines.{view_read, set_read}
 use Rattle.text.proofs.Fields.{spaced}
@@ -44,7 +44,7 @@ module _ (s : List ℕ) where
   unfolding names_from after_names
   name_lies zero p a h = absurd (not-suc-le-zero h)
   name_lies (suc n) p zero h = refl
-  name_lies (suc n) p (suc a) h = name_lies n (after_name s p) a (le_of_suc_le_suc h)
+  name_lies (suc n) p (suc a) h = name_lies n (after_name s p) a (le_of_suc-le-suc h)
 
   -- a name that is there and short enough
   pub name_there : (p : ℕ) → byte_at s p ≤ longest_name → after_name s p ≤ length s → name_field s p ≡ 32 ∷ name_from s p

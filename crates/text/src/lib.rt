@@ -1,5 +1,7 @@
 // The lines that the program `views` prints, as bytes. Each function writes its line to the front of a lent buffer and answers the line's
 // length; what stands after the line is kept. Names are those that can be read off the bytes of the sheet: all of them if it is accepted.
+#![tactic(auto)]
+
 mod bytes;
 mod names;
 mod numbers;

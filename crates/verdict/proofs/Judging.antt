@@ -7,7 +7,7 @@ use Rattle.semantics.specs.Definitions.Rules.{Rule}
 use Rattle.semantics.specs.Definitions.Verdict.{empty, other, verified, verdict}
 use Rattle.semantics.specs.Definitions.Pass.{Gathered, gathered, verdict_from}
 use Rattle.semantics.specs.Definitions.Day.{day_constraints}
-use Rattle.semantics.specs.Theorems.Pass.{one_pass_lem, same-verdict}
+use Rattle.semantics.proofs.Theorems.Pass.{one_pass_lem, same-verdict}
 use Rattle.guess.specs.declared.outline.Outline.{Outline}
 use Rattle.guess.specs.Negations.{negations_by, found_by}
 use Rattle.guess.specs.Settings.{setting_by}

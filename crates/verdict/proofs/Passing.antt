@@ -2,7 +2,7 @@
 use Prim.Native.Nat.{ℕ, ◌+◌}
 use mathlib.Core.Path.{◌≡◌, sym, ap, ap₂, ◌∙◌}
 use mathlib.Core.Bool.{Bool, true, false}
-use mathlib.Core.List.{List, append_nil}
+use mathlib.Core.List.{List, append-nil}
 use native.Mathlib.Numerals.{add-one}
 use lib.ListN.{set}
 use Rattle.sets.specs.Lists.{keep, up_to, keep_snoc}
@@ -10,7 +10,7 @@ use Rattle.sets.specs.Sets.{full}
 use Rattle.semantics.specs.Definitions.Rules.{Rule}
 use Rattle.semantics.specs.Definitions.Stable.{stable}
 use Rattle.semantics.specs.Definitions.Pass.{Gathered, having, after_test, pass_over}
-use Rattle.semantics.specs.Theorems.Pass.{pass_gathers, pass_more}
+use Rattle.semantics.proofs.Theorems.Pass.{pass_gathers, pass_more}
 use Rattle.verdict.specs.Over.{over, over-more, over_nothing}
 
 -- the stable sets below i, over the words lent
@@ -42,4 +42,4 @@ module _ (n : ℕ) (p : List Rule) where
 
       pub passes_over : stable p i ≡ false → out ≡ written_to p (i + 1) o
       unfolding up_to
-      passes_over t = rw (add-one i, keep_snoc (stable p) (up_to i) i, t) (w ∙ ap (λ l. over l o) (sym (append_nil _)))
+      passes_over t = rw (add-one i, keep_snoc (stable p) (up_to i) i, t) (w ∙ ap (λ l. over l o) (sym (append-nil _)))

@@ -1,6 +1,6 @@
 -- Words written over others, from the first on. Assumes nothing.
 use Rattle.std.specs.Prelude.{ℕ, ◌≤◌, ◌≡◌, refl, List, [], ◌∷◌, ◌++◌, length, set, take}
-use Rattle.std.proofs.Common.{ap, le_of_suc_le_suc, not-suc-le-zero}
+use Rattle.std.proofs.Common.{ap, le_of_suc-le-suc, not-suc-le-zero}
 
 -- the words of w over those of o, as many as fit
 unfoldable pub over : (w o : List ℕ) → List ℕ
@@ -31,4 +31,4 @@ pub over_first : (w o : List ℕ) → length w ≤ length o → take (length w) 
 unfolding over
 over_first [] o h = refl
 over_first (x ∷ w) [] h = absurd (not-suc-le-zero h)
-over_first (x ∷ w) (y ∷ o) h = ap (λ l. x ∷ l) (over_first w o (le_of_suc_le_suc h))
+over_first (x ∷ w) (y ∷ o) h = ap (λ l. x ∷ l) (over_first w o (le_of_suc-le-suc h))

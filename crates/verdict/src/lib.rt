@@ -1,4 +1,6 @@
 // The verdict on a guess: its belief sets, what is known and possible in them, and the guess that they find.
+#![tactic(auto)]
+
 mod pass;
 
 ghost use Rattle.std.specs.Prelude.{◌≡◌, ◌*◌, ◌^◌, ◌≤◌, length, take};
@@ -17,7 +19,7 @@ use guess::reduct::reduct;
 use pass::{Gathered, gather};
 
 // What is said of a guess: no belief set; the guess found, which is another; or known, possible and the number of belief sets.
-#[derive(Drop)]
+#[derive(Clone, Copy)]
 pub enum Verdict {
     Empty,
     Other(u16),

@@ -13,7 +13,7 @@ use stable::test_set;
 
 // What the pass gathers: the atoms that are known and those that are possible in the stable sets, how many these are, and how many sets
 // were tested.
-#[derive(Drop)]
+#[derive(Clone, Copy)]
 pub struct Gathered {
     pub known: u16,
     pub possible: u16,

@@ -15,11 +15,12 @@ use Rattle.semantics.specs.Definitions.Verdict.{belief_sets}
 use Rattle.semantics.specs.Definitions.Calls.{list_call}
 use Rattle.semantics.specs.Walk.{records_room}
 use Rattle.semantics.specs.Theorems.Returned.{not_both, answer_refused}
-use Rattle.semantics.specs.Theorems.Source.{sheet_bounded}
-use Rattle.semantics.specs.Theorems.DaySource.{no_masks}
-use Rattle.semantics.specs.Theorems.Verdict.{sets_of}
-use Rattle.semantics.specs.Theorems.Calls.{GuessOf, sets_few}
-use Rattle.semantics.specs.Theorems.Desk.{never_short}
+use Rattle.semantics.proofs.Theorems.Source.{sheet_bounded}
+use Rattle.semantics.proofs.Theorems.DaySource.{no_masks}
+use Rattle.semantics.proofs.Theorems.Verdict.{sets_of}
+use Rattle.semantics.specs.Theorems.Calls.{GuessOf}
+use Rattle.semantics.proofs.Theorems.Calls.{sets_few}
+use Rattle.semantics.proofs.Theorems.Desk.{never_short}
 use Rattle.engine.specs.declared.Counted.{Counted}
 use Rattle.engine.specs.declared.Counted.TheVariants as counts
 use Rattle.engine.specs.declared.Listed.{Listed}

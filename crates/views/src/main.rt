@@ -1,6 +1,8 @@
 // Reads one sheet from standard input and prints its world views, line by line (document 01, "Query and program"). What a line holds:
-// crate `text`; what it says: crate `engine`.
-ghost use Rattle.std.specs.Prelude.{◌≡◌, ◌+◌, ◌*◌, ◌≤◌, length, get_or};
+// crate `text`; what it says: crate `engine`. A read or a write that fails ends it with its error.
+#![tactic(auto)]
+
+ghost use Rattle.std.specs.Prelude.{◌≡◌, ◌+◌, ◌*◌, ◌≤◌, length, get_or, IfOk};
 ghost use Rattle.semantics.specs.Definitions.Setting.{Setting};
 ghost use Rattle.semantics.specs.Definitions.Check.{of_sheet};
 ghost use Rattle.semantics.specs.Definitions.Returned.{accepted};
@@ -8,29 +10,25 @@ ghost use Rattle.semantics.specs.Theorems.Calls.{GuessOf};
 ghost use Rattle.semantics.specs.Theorems.Records.{RecordsOf};
 
 use engine::{Checked, Counted, Listed, belief_sets, check, list};
-use libc::{STDIN_FILENO, STDOUT_FILENO};
+use std::io;
+use std::io::{Read, Stdin, Stdout, Write};
 
-// Unreachable: its `requires` is false.
-fn never()
-    requires { ⊥ }
-{}
-
-fn print_sheet(atoms: usize, rules: usize, negations: usize) {
+fn print_sheet(atoms: usize, rules: usize, negations: usize, mut out: Stdout) -> io::Result<()> {
     let mut line = [0u8; 256];
     let n = text::sheet_line(atoms, rules, negations, &mut line);
-    io::write_all(STDOUT_FILENO, &line[..n]);
+    out.write_all(&line[..n])
 }
 
-fn print_view(sheet: &[u8], guess: u16, sets: u16, known: u16) {
+fn print_view(sheet: &[u8], guess: u16, sets: u16, known: u16, mut out: Stdout) -> io::Result<()> {
     let mut line = [0u8; 256];
     let n = text::view_line(sheet, guess, sets, known, &mut line);
-    io::write_all(STDOUT_FILENO, &line[..n]);
+    out.write_all(&line[..n])
 }
 
-fn print_set(sheet: &[u8], set: u16) {
+fn print_set(sheet: &[u8], set: u16, mut out: Stdout) -> io::Result<()> {
     let mut line = [0u8; 256];
     let n = text::set_line(sheet, set, &mut line);
-    io::write_all(STDOUT_FILENO, &line[..n]);
+    out.write_all(&line[..n])
 }
 
 fn print_tally(
@@ -40,60 +38,63 @@ fn print_tally(
     tested: usize,
     empty: usize,
     other: usize,
-) {
+    mut out: Stdout,
+) -> io::Result<()> {
     let mut line = [0u8; 256];
     let n = text::tally_line(views, covered, ruled, tested, empty, other, &mut line);
-    io::write_all(STDOUT_FILENO, &line[..n]);
+    out.write_all(&line[..n])
 }
 
-fn print_refused(number: u8, place: usize) {
+fn print_refused(number: u8, place: usize, mut out: Stdout) -> io::Result<()> {
     let mut line = [0u8; 256];
     let n = text::refused_line(number, place, &mut line);
-    io::write_all(STDOUT_FILENO, &line[..n]);
+    out.write_all(&line[..n])
 }
 
 // The first n sets.
-fn each_set(sheet: &[u8], sets: &[u16], n: usize)
+fn each_set(sheet: &[u8], sets: &[u16], n: usize, out: Stdout) -> io::Result<()>
     requires { n ≤ length sets.now }
 {
     for i in 0..n {
-        print_set(sheet, sets[i]);
+        print_set(sheet, sets[i], out)?;
     }
+    Ok(())
 }
 
 // The belief sets of a guess, without day masks. There are no more than 2^15, one word each, so they are not refused.
-fn sets_of(sheet: &[u8], guess: u16)
+fn sets_of(sheet: &[u8], guess: u16, out: Stdout) -> io::Result<()>
     requires { (s : Setting) × GuessOf (of_sheet sheet.now) guess s }
 {
     let mut sets = [0u16; 32768];
     match belief_sets(sheet, 0, 0, guess as u32, &mut sets) {
-        Counted::Accepted { count } => each_set(sheet, &sets, count),
-        Counted::Refused { .. } => never(),
+        Counted::Accepted { count } => each_set(sheet, &sets, count, out),
+        Counted::Refused { .. } => unreachable!(),
     }
 }
 
 // The view whose record begins at a word.
-fn view_at(sheet: &[u8], records: &[u16], at: usize)
+fn view_at(sheet: &[u8], records: &[u16], at: usize, out: Stdout) -> io::Result<()>
     requires at_in_bounds { at + 4 ≤ length records.now }
     requires guess_of { (s : Setting) × GuessOf (of_sheet sheet.now) (get_or records.now at 0) s }
 {
     let guess = records[at];
-    print_view(sheet, guess, records[at + 3], records[at + 1]);
-    sets_of(sheet, guess);
+    print_view(sheet, guess, records[at + 3], records[at + 1], out)?;
+    sets_of(sheet, guess, out)
 }
 
 // The views of the n records of a sheet.
-fn each_view(sheet: &[u8], records: &[u16], n: usize)
+fn each_view(sheet: &[u8], records: &[u16], n: usize, out: Stdout) -> io::Result<()>
     requires n_in_bounds { 4 * n ≤ length records.now }
     requires sheet_value { (s : Setting) × (of_sheet sheet.now ≡ accepted s) × RecordsOf s n records.now }
 {
     for i in 0..n {
-        view_at(sheet, records, 4 * i);
+        view_at(sheet, records, 4 * i, out)?;
     }
+    Ok(())
 }
 
 // The views and the tally of an accepted sheet, without day masks. There are no more than 4,096, four words each, so the listing is not refused.
-fn listing(sheet: &[u8])
+fn listing(sheet: &[u8], out: Stdout) -> io::Result<()>
     requires { (s : Setting) × (of_sheet sheet.now ≡ accepted s) }
 {
     let mut records = [0u16; 16384];
@@ -106,30 +107,45 @@ fn listing(sheet: &[u8])
             empty,
             other,
         } => {
-            each_view(sheet, &records, views);
-            print_tally(views, covered, ruled, tested, empty, other);
+            each_view(sheet, &records, views, out)?;
+            print_tally(views, covered, ruled, tested, empty, other, out)
         }
-        Listed::Refused { .. } => never(),
+        Listed::Refused { .. } => unreachable!(),
     }
 }
 
-fn answer(sheet: &[u8]) {
+fn answer(sheet: &[u8], out: Stdout) -> io::Result<()> {
     match check(sheet) {
         Checked::Accepted {
             atoms,
             rules,
             negations,
         } => {
-            print_sheet(atoms, rules, negations);
-            listing(sheet);
+            print_sheet(atoms, rules, negations, out)?;
+            listing(sheet, out)
         }
-        Checked::Refused { number, place } => print_refused(number, place),
+        Checked::Refused { number, place } => print_refused(number, place, out),
     }
 }
 
+// Reads until the buffer is full or the input ends, and answers how many bytes there are.
+fn read_full(mut input: Stdin, buffer: &mut [u8]) -> io::Result<usize>
+    ensures { IfOk result (λ n. n ≤ length buffer.new) }
+{
+    let mut done = 0;
+    while done < buffer.len() {
+        let n = input.read(&mut buffer[done..])?;
+        if n == 0 {
+            break;
+        }
+        done += n;
+    }
+    Ok(done)
+}
+
 // The first 1,237 bytes decide: a sheet has at most 1,236.
-fn main() {
+fn main(rt: HostRuntime) -> io::Result<()> {
     let mut sheet = [0u8; 1237];
-    let n = io::read_full(STDIN_FILENO, &mut sheet);
-    answer(&sheet[..n]);
+    let n = read_full(rt.stdin(), &mut sheet)?;
+    answer(&sheet[..n], rt.stdout())
 }

@@ -6,7 +6,7 @@ use Rattle.semantics.specs.Definitions.Reading.{Reading, field, ◌then◌, requ
 use Rattle.semantics.specs.Definitions.Sheet.{Sheet, byte_at, word_at, present, count_at}
 use Rattle.semantics.specs.Definitions.Setting.{Setting}
 use Rattle.semantics.specs.Definitions.Check.{setting, opened}
-use Rattle.semantics.specs.Definitions.Returned.{Returned, accepted, refusal, read, ◌and-then◌, limited}
+use Rattle.semantics.specs.Definitions.Returned.{Returned, accepted, refusal, read, ◌and_then◌, limited}
 
 -- ---- the calendar
 -- "minutes from Monday 0:00": a week has those from 0 to 10079

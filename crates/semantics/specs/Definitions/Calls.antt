@@ -4,7 +4,7 @@
 -- `of_minute` (Calendar.antt), which begin with it.
 use Rattle.std.specs.Prelude.{ℕ, ◌*◌, ◌^◌, Bool, cond, List, ltb, length}
 use Rattle.semantics.specs.Definitions.Setting.{Setting, k}
-use Rattle.semantics.specs.Definitions.Returned.{Returned, accepted, refusal, ◌and-then◌, answer, limited}
+use Rattle.semantics.specs.Definitions.Returned.{Returned, accepted, refusal, ◌and_then◌, answer, limited}
 use Rattle.semantics.specs.Definitions.Verdict.{belief_sets, Verdict, verdict}
 use Rattle.semantics.specs.Definitions.Listing.{Tally, tally_of, View, listing, words}
 use Rattle.semantics.specs.Definitions.Query.{Answer, query}

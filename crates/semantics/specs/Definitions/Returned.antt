@@ -13,9 +13,9 @@ abbrev pub read : {A : Type 0} → Reading A → Returned A
 read (field value end) = accepted value
 read (refused number place) = refusal number place
 
-infixr 30 ◌and-then◌
+infixr 30 ◌and_then◌
 -- a step of a call, and then the rest of it, which takes the values of the step; where the step is refused, so is the call
-abbrev pub ◌and-then◌ : {A B : Type 0} → Returned A → (A → Returned B) → Returned B
+abbrev pub ◌and_then◌ : {A B : Type 0} → Returned A → (A → Returned B) → Returned B
 (accepted values) and_then rest = rest values
 (refusal number place) and_then rest = refusal number place
 

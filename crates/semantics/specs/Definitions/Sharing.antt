@@ -73,9 +73,9 @@ pub data Shared (A : Type 0) : Type 0 where
   granted : (values : A) → Shared A
   denied : (number place position : ℕ) → Shared A
 
-infixr 30 ◌and-so◌
+infixr 30 ◌and_so◌
 -- a step, and then the rest; where the step is refused, so is the whole
-abbrev pub ◌and-so◌ : {A B : Type 0} → Shared A → (A → Shared B) → Shared B
+abbrev pub ◌and_so◌ : {A B : Type 0} → Shared A → (A → Shared B) → Shared B
 (granted values) and_so rest = rest values
 (denied number place position) and_so rest = denied number place position
 

@@ -11,7 +11,7 @@ pub record Opposites : Type 0 where
   pub first : ℕ
   pub second : ℕ
 
--- What a sheet says: the atoms' names, each a list of bytes, the rules, each a list of eight masks, and the pairs; and `logic_at`, "where the
+-- What a sheet says: the atoms' names, each a list of bytes, the rules, each a list of eight masks, and the pairs; and `rules_at`, "where the
 -- rules begin". "Atoms are numbered from 0 in this order."
 pub record Sheet : Type 0 where
   pub names : List (List ℕ)

@@ -1,32 +1,27 @@
 -- The definitions, and the walk, computed on the bytes of the known sheets. Assumes nothing.
-use Rattle.std.specs.Prelude.{◌^◌, ◌≡◌, refl, List, [], ◌∷◌, ◌++◌, map, length}
-use Rattle.std.proofs.Math.Decide.{ℕ_discrete}
-use Rattle.std.specs.Int.Count.{ones, ones_in}
-use Rattle.sets.specs.Lists.{every, some, keep, flat, up_to, down_from, same_list}
-use Rattle.sets.specs.Sets.{set_of, members_of}
-use Rattle.semantics.specs.Definitions.Reading.{times}
-use Rattle.semantics.specs.Definitions.Sheet.{longest_sheet, atoms_of, count_at, name_byte_at, name_at, mask_at, rule_at, pair_at, front, two_sections, pairs_at, sections}
-use Rattle.semantics.specs.Definitions.Reduct.{reduct_rule, reduct}
+-- Here the definitions; the theorems are in proofs/Examples/Computed.antt.
+use Rattle.std.specs.Prelude.{◌^◌, ◌≡◌, List, [], ◌∷◌, ◌++◌, map, length}
+use Rattle.sets.specs.Lists.{keep, up_to}
+use Rattle.semantics.specs.Definitions.Sheet.{longest_sheet}
 use Rattle.semantics.specs.Definitions.Setting.{Setting, k}
-use Rattle.semantics.specs.Definitions.Check.{setting, opened, opened_two_sections, said, of_sheet, numbers, numbers_of, check}
+use Rattle.semantics.specs.Definitions.Check.{setting, opened_two_sections, said, of_sheet, numbers, numbers_of, check}
 use Rattle.semantics.specs.Definitions.Returned.{accepted, refusal, read, answer, afterwards}
-use Rattle.semantics.specs.Definitions.Stable.{reduct_at, smaller_model, stable, stable_sets}
-use Rattle.semantics.specs.Definitions.Verdict.{belief_sets, guess_found, verdict}
-use Rattle.semantics.specs.Definitions.Calls.{for_guess, for_atom, verdict_call, belief_sets_call, result_of, list_call, query_call}
-use Rattle.semantics.specs.Definitions.Propagation.{steps, contradicted}
+use Rattle.semantics.specs.Definitions.Stable.{reduct_at, stable_sets}
+use Rattle.semantics.specs.Definitions.Verdict.{belief_sets}
+use Rattle.semantics.specs.Definitions.Calls.{verdict_call, belief_sets_call, result_of, list_call, query_call}
+use Rattle.semantics.specs.Definitions.Propagation.{contradicted}
 use Rattle.semantics.specs.Definitions.Order.{order}
-use Rattle.semantics.specs.Definitions.Listing.{View, Tally, is_world_view, covered, tally_of, views_along, listing}
-use Rattle.semantics.specs.Definitions.Query.{yes_no_open, answer_by}
+use Rattle.semantics.specs.Definitions.Listing.{View, Tally, tally_of, listing}
 use Rattle.semantics.specs.Definitions.Desk.{desk_call, desk_number, desk_bytes}
-use Rattle.semantics.specs.Definitions.Program.{digits, names_of, printed}
-use Rattle.semantics.specs.Definitions.Calendar.{entry_at, calendar_of, open_at, in_force, of_minute}
+use Rattle.semantics.specs.Definitions.Program.{printed}
+use Rattle.semantics.specs.Definitions.Calendar.{calendar_of, open_at, in_force, of_minute}
 use Rattle.semantics.specs.Definitions.Pass.{gathered, one_pass}
-use Rattle.semantics.specs.Definitions.Day.{day_constraints, under_masks, of_day}
+use Rattle.semantics.specs.Definitions.Day.{of_day}
 use Rattle.semantics.specs.Definitions.LeastModel.{single_heads, grown, least_model, by_least_model}
-use Rattle.semantics.specs.Definitions.Sharing.{tests_of, met_in, finished_in, in_all, turns, turns_at, shares_from, sheet_by_sheet, share_call, handed, lent_after}
+use Rattle.semantics.specs.Definitions.Sharing.{turns, share_call, lent_after}
 use Rattle.semantics.specs.Walk.{walk}
 use Rattle.semantics.specs.Theorems.CalendarPlaces.{longest_calendar}
-use Rattle.semantics.specs.Examples.Sheets.{Listed, zeros, ten, kiln, sheet_6}
+use Rattle.semantics.specs.Examples.Sheets.{Listed, ten, kiln, sheet_6}
 use Rattle.semantics.specs.Examples.Own.{own}
 use Rattle.semantics.specs.Examples.Limits.{longest, answers}
 use Rattle.semantics.specs.Examples.Reducts.{reducts}
@@ -36,7 +31,7 @@ use Rattle.semantics.specs.Examples.Queries.{queries}
 use Rattle.semantics.specs.Examples.Texts.{texts}
 use Rattle.semantics.specs.Examples.Calendars.{longest_hours, calendars, openings, forces}
 use Rattle.semantics.specs.Examples.Minutes.{minute_listings}
-use Rattle.semantics.specs.Examples.Changed.{Changed, changed, LongestChanged, longest_changed}
+use Rattle.semantics.specs.Examples.Changed.{Changed, LongestChanged}
 use Rattle.semantics.specs.Examples.Passes.{passes}
 use Rattle.semantics.specs.Examples.Days.{day_verdicts, day_sets, day_contradicted, day_listings, day_desk, day_queries}
 use Rattle.semantics.specs.Examples.LeastModels.{chain, stages, least_models, singles, least_beliefs}
@@ -146,78 +141,3 @@ pub record Computed : Type 0 where
   pub shares_nine : map (λ p. share_call p.0 p.1 p.2 p.3) nine_calls ≡ map (λ p. p.4) nine_calls
   pub shares_denied : map (λ p. share_call p.0 p.1 p.2 p.3) denied_calls ≡ map (λ p. p.4) denied_calls
   pub buffers_lent : map (λ p. lent_after (share_call p.0 p.1 p.2 (map length p.3)) p.3) lent_buffers ≡ map (λ p. p.4) lent_buffers
-
-pub computed : Computed
-unfolding ℕ_discrete ones ones_in every some keep flat up_to down_from same_list set_of zeros times atoms_of count_at name_byte_at name_at mask_at rule_at pair_at front two_sections pairs_at sections opened opened_two_sections of_sheet check reduct_rule reduct reduct_at smaller_model stable stable_sets belief_sets guess_found verdict for_guess verdict_call belief_sets_call steps contradicted order is_world_view covered tally_of views_along walk for_atom query_call yes_no_open answer_by digits names_of printed entry_at calendar_of in_force of_minute one_pass members_of day_constraints under_masks grown by_least_model tests_of met_in finished_in in_all turns turns_at shares_from sheet_by_sheet share_call handed
-computed = record {
-  checks = refl;
-  lists = refl;
-  walks = refl;
-  two_views_lem = refl;
-  reducts_are = refl;
-  verdicts_returned = refl;
-  sets_returned = refl;
-  listings_returned = refl;
-  desk_returned = refl;
-  desk_written = refl;
-  queries_answered = refl;
-  texts-printed = refl;
-  limits = refl;
-  longest-bytes = refl;
-  calendars-read = refl;
-  longest-calendar = refl;
-  open_or_not = refl;
-  in_force_or_not = refl;
-  minute_listings_returned = refl;
-  changes_returned = changed;
-  longest-changes = longest_changed;
-  gathered_are = refl;
-  passes_gather = refl;
-  day_verdicts_returned = refl;
-  day_sets_returned = refl;
-  day_contradicted_or_not = refl;
-  day_listings_returned = refl;
-  day_desk_returned = refl;
-  day_desk_written = refl;
-  day_queries_answered = refl;
-  chain_grows = refl;
-  least_models_are = refl;
-  sets_pass = refl;
-  sets-stable = refl;
-  single_or_not = refl;
-  beliefs_pass = refl;
-  beliefs_stable = refl;
-  two_sections_refused = refl;
-  two_sections_listed = refl;
-  last_byte_refused = refl;
-  pairs-checked = refl;
-  pairs_are_no_rules = refl;
-  pairs-listed = refl;
-  pairs-walked = refl;
-  pairs-turned = refl;
-  pairs_as_rules = refl;
-  without_pairs = refl;
-  many_pairs_listed = refl;
-  pair_programs_are = refl;
-  minute_programs_are = refl;
-  pair_verdicts_returned = refl;
-  pair_sets_returned = refl;
-  pair_contradicted_or_not = refl;
-  pair_listings_returned = refl;
-  pair_desk_returned = refl;
-  pair_desk_written = refl;
-  pair_queries_answered = refl;
-  pair_minutes_returned = refl;
-  pair_passes_gather = refl;
-  pair_single_or_not = refl;
-  pair_beliefs_pass = refl;
-  pair_beliefs_stable = refl;
-  turns_are = refl;
-  shares_finished = refl;
-  shares_fit = refl;
-  shares_by_rounds = refl;
-  shares_in_order = refl;
-  shares_nine = refl;
-  shares_denied = refl;
-  buffers_lent = refl;
-}

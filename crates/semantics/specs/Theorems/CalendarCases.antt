@@ -1,7 +1,7 @@
 -- When a calendar is accepted, and when it is refused with which number and place, said of its bytes without reading steps; every calendar is
 -- accepted or refused so. Assumes nothing.
 use Rattle.std.specs.Prelude.{ℕ, zero, suc, ◌+◌, ◌*◌, ◌≤◌, ◌<◌, ◌≡◌, refl, List, map, ◌⊎◌, length}
-use Rattle.std.proofs.Common.{sym, inl, inr, ⊎_elim, eq-or-lt_of_le, le_of_suc_le_suc, not-suc-le-zero, arith}
+use Rattle.std.proofs.Common.{sym, inl, inr, ⊎_elim, eq-or-lt_of_le, le_of_suc-le-suc, not-suc-le-zero, arith}
 use Rattle.sets.specs.Decides.{decided, dec_le}
 use Rattle.sets.specs.Lists.{up_to}
 use Rattle.semantics.specs.Definitions.Sheet.{byte_at}
@@ -99,7 +99,7 @@ module _ (c : List ℕ) (rules : ℕ) where
   good_or_not zero = inl (λ j l. absurd (not-suc-le-zero l))
   good_or_not (suc n) =
       ⊎_elim (λ g. ⊎_elim (λ s. ⊎_elim
-      (λ p. inl (λ j l. ⊎_elim (λ e. rw e (s, p)) (λ m. g j m) (eq-or-lt_of_le (le_of_suc_le_suc l))))
+      (λ p. inl (λ j l. ⊎_elim (λ e. rw e (s, p)) (λ m. g j m) (eq-or-lt_of_le (le_of_suc-le-suc l))))
       (λ p. inr (n, omega arith, g, inr (s, p)))
       (decided (dec_proper rules (entry_by c n))))
       (λ s. inr (n, omega arith, g, inl s))

@@ -4,7 +4,7 @@ use Rattle.std.proofs.Common.{inl, inr, ⊎_elim, le-leb, leb-true, leb-false}
 use Rattle.std.proofs.lemmas.Bool.{lt-leb}
 use Rattle.sets.specs.Decides.{unequal}
 use Rattle.semantics.specs.Definitions.Reading.{Reading, field, refused}
-use Rattle.semantics.specs.Definitions.Returned.{Returned, accepted, refusal, read, ◌and-then◌, limited, answer}
+use Rattle.semantics.specs.Definitions.Returned.{Returned, accepted, refusal, read, ◌and_then◌, limited, answer}
 
 -- no call is both accepted and refused
 pub not_both : {A : Type 0} {r : Returned A} {v : A} {number place : ℕ} → r ≡ accepted v → r ≡ refusal number place → ⊥

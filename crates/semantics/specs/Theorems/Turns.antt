@@ -1,7 +1,7 @@
 -- A loop over a step: the whole reading is what is left of it after i turns. It starts so, goes on, stops at a refusal, and is done. Where it is
 -- known what each turn can yield, the whole is refused exactly as the first turn that is, and yields exactly where all do. Assumes nothing.
 use Prim.Native.Nat.{ℕ, zero, suc, ◌+◌, ◌-◌, ◌≤◌, ◌<◌}
-use Rattle.std.proofs.Common.{eq-or-lt_of_le, le_of_suc_le_suc, not-suc-le-zero, sym, ◌∙◌, subst, inl, inr, ⊎_elim}
+use Rattle.std.proofs.Common.{eq-or-lt_of_le, le_of_suc-le-suc, not-suc-le-zero, sym, ◌∙◌, subst, inl, inr, ⊎_elim}
 use native.Mathlib.Omega.{arith}
 use Rattle.std.specs.Prelude.{◌≡◌, refl, List, [], ◌∷◌, ◌++◌, map, ◌↔◌, ◌⊎◌}
 use Rattle.std.proofs.Math.Path.{ap₂}
@@ -78,7 +78,7 @@ module _ {A : Type 0} (step : List A → ℕ → Reading A) (value : ℕ → A) 
       where
         go : YieldBefore n → (r : Reading A) → turn_at n ≡ r → YieldBefore (suc n) ⊎ ((k : ℕ) × (p : ℕ) × FirstRefused (suc n) k p)
         go g (field v next) e =
-            inl (λ j l. ⊎_elim (λ same. subst Yields (sym same) (known n v next e)) (g j) (eq-or-lt_of_le (le_of_suc_le_suc l)))
+            inl (λ j l. ⊎_elim (λ same. subst Yields (sym same) (known n v next e)) (g j) (eq-or-lt_of_le (le_of_suc-le-suc l)))
         go g (refused k p) e = inr (k, p, (n, omega arith, g, e))
 
     pub refused_exactly : (n k p : ℕ) → times n [] step (place 0) ≡ refused k p ↔ FirstRefused n k p

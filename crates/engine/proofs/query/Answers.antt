@@ -1,0 +1,60 @@
+-- `engine::query` meets its contract. Assumes nothing.
+use mathlib.Core.Path.{ap, ◌∙◌}
+use native.Mathlib.Omega.{arith}
+use Rattle.semantics.specs.Definitions.Day.{of_day}
+use Rattle.semantics.specs.Definitions.Returned.{accepted}
+use Rattle.semantics.specs.Definitions.Calls.{for_atom}
+use Rattle.records.specs.Records.{views_in}
+use Rattle.source.proofs.Read.{outlined}
+use Rattle.engine.specs.declared.Queried.TheVariants.{None, Refused}
+use Rattle.engine.proofs.Laws.{is_atom, answers-query, query_turned_back, query-met}
+use Rattle.engine.proofs.Answered.{answers-none, answers-three}
+use borrow.Author.Rules.{rules}
+use Rattle.engine.proofs.query.Goals as goal
+
+pub list_in_order-t-requires : goal.list_in_order-t-requires
+list_in_order-t-requires c =
+    let a = c.args in
+    (outlined (for_atom (of_day a.sheet.now a.ins a.outs) a.atom) _ _ (c.for_atom.ensures (of_day a.sheet.now a.ins a.outs) _ c.of_day-source.ensures.reads) c.in-Accepted.is, search rules)
+
+pub returns-then-t-eq0 : goal.returns-then-t-eq0
+returns-then-t-eq0 c =
+    let a = c.args in
+    let from = of_day a.sheet.now a.ins a.outs in
+    let w = c.list_in_order-t in
+    let records = w.new.records in
+    let n = w.result.views in
+    let met = query-met a.sheet.now a.ins a.outs a.atom None
+    (ap accepted (answers-none records n a.atom c.if-t-eq0.true)
+    ∙ answers-query from a.atom _ _ (c.for_atom.ensures (of_day a.sheet.now a.ins a.outs) _ c.of_day-source.ensures.reads) c.in-Accepted.is (views_in records n) w.ensures.views_after) in
+    record { result_value = met.0; query_demand = met.1.0; query_day = met.1.1 }
+
+pub overflow_cast-atom : goal.overflow_cast-atom
+overflow_cast-atom c =
+    let a = c.args in
+    let h = is_atom (of_day a.sheet.now a.ins a.outs) a.atom _ _ (c.for_atom.ensures (of_day a.sheet.now a.ins a.outs) _ c.of_day-source.ensures.reads) c.in-Accepted.is in
+    omega (arith, h)
+
+pub yes_no_open-requires : goal.yes_no_open-requires
+yes_no_open-requires c =
+    let a = c.args in
+    let h = is_atom (of_day a.sheet.now a.ins a.outs) a.atom _ _ (c.for_atom.ensures (of_day a.sheet.now a.ins a.outs) _ c.of_day-source.ensures.reads) c.in-Accepted.is in
+    (search rules, h)
+
+pub returns-else-t-eq0 : goal.returns-else-t-eq0
+returns-else-t-eq0 c =
+    let a = c.args in
+    let from = of_day a.sheet.now a.ins a.outs in
+    let w = c.list_in_order-t in
+    let records = w.new.records in
+    let n = w.result.views in
+    let met = query-met a.sheet.now a.ins a.outs a.atom _
+    (c.yes_no_open.ensures ∙ ap accepted (answers-three records n a.atom c.if-t-eq0.false)
+    ∙ answers-query from a.atom _ _ (c.for_atom.ensures (of_day a.sheet.now a.ins a.outs) _ c.of_day-source.ensures.reads) c.in-Accepted.is (views_in records n) w.ensures.views_after) in
+    record { result_value = met.0; query_demand = met.1.0; query_day = met.1.1 }
+
+pub returns-in-Refused : goal.returns-in-Refused
+returns-in-Refused c =
+    let a = c.args in
+    let met = query-met a.sheet.now a.ins a.outs a.atom (Refused _ _) (query_turned_back (of_day a.sheet.now a.ins a.outs) a.atom _ _ (c.for_atom.ensures (of_day a.sheet.now a.ins a.outs) _ c.of_day-source.ensures.reads) c.in-Refused.is) in
+    record { result_value = met.0; query_demand = met.1.0; query_day = met.1.1 }

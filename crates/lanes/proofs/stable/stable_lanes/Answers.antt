@@ -1,0 +1,19 @@
+-- `lanes::stable::stable_lanes` meets its contract. Assumes nothing.
+use Rattle.lanes.specs.Lanes.{lanes_is}
+use Rattle.lanes.specs.Stable.{stable_empty, stable-none, stable-some}
+use Rattle.lanes.proofs.stable.stable_lanes.Goals as goal
+
+pub returns-then-lanes-eq0 : goal.returns-then-lanes-eq0
+returns-then-lanes-eq0 c = let a = c.args in stable_empty a.rules.now a.n a.i a.w a.lanes c.if-lanes-eq0.true
+
+pub returns-then-model-eq0 : goal.returns-then-model-eq0
+returns-then-model-eq0 c =
+    let a = c.args in
+    stable-none a.rules.now a.on.now a.n a.i a.w a.lanes c.models-model.ensures c.if-model-eq0.true
+
+pub returns : goal.returns
+returns c =
+    let a = c.args in
+    let model = c.models-model.ensures in
+    let on = c.switch_on.ensures in
+    lanes_is c.minus.ensures (stable-some a.rules.now _ a.n a.i a.w a.lanes model on c.smaller_sets-small.ensures)

@@ -1,0 +1,53 @@
+-- `listing::paused::Paused::look` meets its contract. Assumes nothing.
+use mathlib.Core.Path.{refl, sym, ◌∙◌}
+use mathlib.Core.Bool.{true}
+use Rattle.sets.specs.Decides.{dec_self}
+use Rattle.guess.specs.Numbered.{few_of, guess_below}
+use Rattle.guess.specs.Settings.{contradicted_by}
+use borrow.Author.Rules.{rules}
+use Rattle.listing.proofs.paused.Paused.look.Goals as goal
+
+pub reduct-rules-requires : goal.reduct-rules-requires
+reduct-rules-requires c = (c.requires.outlines.0, c.requires.outlines.2)
+
+pub contradicted-requires : goal.contradicted-requires
+contradicted-requires c =
+    let pre = c.requires.outlines in
+    (search rules, few_of pre.0, guess_below pre.0 pre.1)
+
+pub count-next-requires : goal.count-next-requires
+count-next-requires c = c.requires.waits_value.1
+
+pub shape_of-program-then-contradicted : goal.shape_of-program-then-contradicted
+shape_of-program-then-contradicted c = c.reduct-rules.ensures.out_len_unchanged
+
+pub returns-then-contradicted : goal.returns-then-contradicted
+returns-then-contradicted c =
+    let a = c.args in
+    let pre = c.requires in record {
+      program_len_unchanged = c.reduct-rules.ensures.out_len_unchanged;
+      looked = record {
+        same_at = refl;
+        where_waits = λ e. absurd ((dec_self a.self.waits).no pre.waits_value.0 e);
+        where_ruled = λ _. (
+          sym (contradicted_by pre.outlines.0 a.guess c.reduct-rules.ensures.result_after) ∙ sym c.contradicted.ensures ∙ c.if-contradicted.true,
+          c.count-next.ensures,
+        );
+      };
+    }
+
+pub shape_of-program : goal.shape_of-program
+shape_of-program c = c.reduct-rules.ensures.out_len_unchanged
+
+pub returns : goal.returns
+returns c =
+    let a = c.args in
+    let pre = c.requires in
+    let reduct = c.reduct-rules.ensures in record {
+      program_len_unchanged = reduct.out_len_unchanged;
+      looked = record {
+        same_at = refl;
+        where_waits = λ _. (refl, sym (contradicted_by pre.outlines.0 a.guess reduct.result_after) ∙ sym c.contradicted.ensures ∙ c.if-contradicted.false, reduct.upper_bound, reduct.result_after);
+        where_ruled = λ e. absurd ((dec_self true).no e refl);
+      };
+    }

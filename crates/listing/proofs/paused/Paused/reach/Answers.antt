@@ -1,0 +1,114 @@
+-- `listing::paused::Paused::reach` meets its contract. Assumes nothing.
+use Prim.Native.Nat.{◌^◌, ◌≤◌, ◌<◌}
+use mathlib.Core.Path.{◌≡◌, refl, ◌∙◌}
+use native.Mathlib.Omega.{arith}
+use lib.ListN.{length, get_or}
+use Rattle.sets.specs.Decides.{dec_self}
+use Rattle.listing.proofs.Reaching.{few_counts, larger_first, room_left, along_passed, along_waiting, along_over, at_end, at-waiting}
+use Rattle.listing.proofs.paused.Paused.reach.Goals as goal
+
+pub overflow_cast-x : goal.overflow_cast-x
+overflow_cast-x c = omega (arith, c.requires.outlines.0.few_negations)
+
+pub power-end-requires : goal.power-end-requires
+power-end-requires c = omega (arith, c.requires.outlines.0.few_negations)
+
+pub loop-self-init : goal.loop-self-init
+loop-self-init c = let pre = c.requires.tested_le_most in (refl, refl, pre.0, pre.1)
+
+pub advance-self-requires : goal.advance-self-requires
+advance-self-requires c =
+    let l = c.loop-self in
+    let a = c.args in
+    let o = c.requires.outlines.0 in
+    let en = c.requires.outlines.1 in
+    let along = l.invariant.3 in
+    let told : l.self.at < length a.order.now = omega (arith, c.loop-self-test.true) in
+    let below : get_or a.order.now l.self.at 0 < 2 ^ a.x.negations = omega (arith, c.if-order-at.true, c.power-end.ensures) in record {
+      outlines = (o, told, below, omega (arith, l.invariant.0, c.requires.program_room_in_bounds.0));
+      at_most = (
+        few_counts a.order.now o en along,
+        room_left a.order.now o en along (omega (arith, l.invariant.1, c.requires.program_room_in_bounds.1)) told below,
+        larger_first a.order.now o en along,
+      );
+      tested_le_most = (l.invariant.2, λ e. (along.waiting e).2);
+    }
+
+pub shape_of-program-then-self : goal.shape_of-program-then-self
+shape_of-program-then-self c = c.advance-self.ensures.program_len_unchanged ∙ c.loop-self.invariant.0
+
+pub shape_of-records-then-self : goal.shape_of-records-then-self
+shape_of-records-then-self c = c.advance-self.ensures.records_len_unchanged ∙ c.loop-self.invariant.1
+
+pub returns-then-self : goal.returns-then-self
+returns-then-self c =
+    let l = c.loop-self in
+    let a = c.args in
+    let o = c.requires.outlines.0 in
+    let en = c.requires.outlines.1 in
+    let step = c.advance-self in
+    let told : l.self.at < length a.order.now = omega (arith, c.loop-self-test.true) in
+    let below : get_or a.order.now l.self.at 0 < 2 ^ a.x.negations = omega (arith, c.if-order-at.true, c.power-end.ensures) in
+    let along = along_waiting a.order.now o en l.invariant.3 told below c.if-self.true step.ensures.advanced in
+    let spent = (step.ensures.advanced.where_waits c.if-self.true).1 in
+    record {
+      program_len_unchanged = step.ensures.program_len_unchanged ∙ l.invariant.0;
+      records_len_unchanged = step.ensures.records_len_unchanged ∙ l.invariant.1;
+      along = along;
+      stands = at-waiting a.order.now o en a.most along c.if-self.true spent;
+      at_value = λ e. absurd ((dec_self step.result.waits).no e c.if-self.true);
+    }
+
+pub loop-self-smaller-else-self : goal.loop-self-smaller-else-self
+loop-self-smaller-else-self c =
+    let l = c.loop-self in
+    let a = c.args in
+    let step = c.advance-self in
+    let told : l.self.at < length a.order.now = omega (arith, c.loop-self-test.true) in
+    let below : get_or a.order.now l.self.at 0 < 2 ^ a.x.negations = omega (arith, c.if-order-at.true, c.power-end.ensures) in
+    let at = (step.ensures.advanced.where_passed c.if-self.false).0 in
+    omega (arith, at, c.loop-self-test.true)
+
+pub loop-self-preserved-else-self : goal.loop-self-preserved-else-self
+loop-self-preserved-else-self c =
+    let l = c.loop-self in
+    let a = c.args in
+    let step = c.advance-self in
+    let told : l.self.at < length a.order.now = omega (arith, c.loop-self-test.true) in
+    let below : get_or a.order.now l.self.at 0 < 2 ^ a.x.negations = omega (arith, c.if-order-at.true, c.power-end.ensures) in
+    let few = (step.ensures.advanced.where_passed c.if-self.false).1 in (
+      step.ensures.program_len_unchanged ∙ l.invariant.0,
+      step.ensures.records_len_unchanged ∙ l.invariant.1,
+      few,
+      along_passed a.order.now c.requires.outlines.0 c.requires.outlines.1 l.invariant.3 told below c.if-self.false step.ensures.advanced,
+    )
+
+pub loop-self-smaller : goal.loop-self-smaller
+loop-self-smaller c = omega (arith, c.loop-self-test.true)
+
+pub loop-self-preserved : goal.loop-self-preserved
+loop-self-preserved c =
+    let l = c.loop-self in
+    let a = c.args in
+    let told : l.self.at < length a.order.now = omega (arith, c.loop-self-test.true) in
+    let beyond : 2 ^ a.x.negations ≤ get_or a.order.now l.self.at 0 = omega (arith, c.if-order-at.false, c.power-end.ensures) in
+    (l.invariant.0, l.invariant.1, l.invariant.2, along_over a.order.now c.requires.outlines.0 c.requires.outlines.1 l.invariant.3 told beyond)
+
+pub shape_of-program : goal.shape_of-program
+shape_of-program c = c.loop-self.invariant.0
+
+pub shape_of-records : goal.shape_of-records
+shape_of-records c = c.loop-self.invariant.1
+
+pub returns : goal.returns
+returns c =
+    let l = c.loop-self in
+    let a = c.args in
+    let end : l.self.at ≡ length a.order.now = omega (arith, l.invariant.3.within, c.loop-self-test.false) in
+    record {
+      program_len_unchanged = l.invariant.0;
+      records_len_unchanged = l.invariant.1;
+      along = l.invariant.3;
+      stands = at_end a.order.now c.requires.outlines.0 c.requires.outlines.1 a.most l.invariant.3 end l.invariant.2;
+      at_value = λ _. end;
+    }

@@ -1,0 +1,2 @@
+-- What the proof cites: the constant list passes the test.
+mod Ordered

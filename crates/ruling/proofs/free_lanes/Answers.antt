@@ -1,0 +1,11 @@
+-- `ruling::free_lanes` meets its contract. Assumes nothing.
+use mathlib.Core.Path.{ap₂, ◌∙◌}
+use Rattle.sets.specs.Sets.{◌∖◌}
+use Rattle.ruling.proofs.Ruled.{free_word}
+use Rattle.ruling.proofs.free_lanes.Goals as goal
+
+pub returns : goal.returns
+returns c =
+    let pre = c.requires in
+    free_word pre.1 pre.3 c.assume.ensures.assumed_in c.assume-2.ensures.assumed_in pre.4
+    (c.minus.ensures ∙ ap₂ (λ u v. u ∖ v) c.full.ensures c.full-2.ensures) c.cube-guesses.ensures c.contradicted-bad.ensures c.minus-2.ensures

@@ -1,0 +1,15 @@
+-- `ruling::pass::pass` meets its contract. Assumes nothing.
+use lib.ListN.{get_or-replicate}
+use Rattle.ruling.specs.Literals.{every_lane}
+use Rattle.ruling.specs.Pass.{next_by}
+use Rattle.ruling.proofs.pass.pass.Goals as goal
+
+pub returns : goal.returns
+returns c =
+    let a = c.args in
+    let f = c.follow.ensures in
+    let e = c.enter.ensures in
+    record {
+      t_len_unchanged = (f.t_len_unchanged.0, e.f_len_unchanged);
+      next = next_by a.words.now a.rules a.n a.truths.now a.falsities.now (λ i l. get_or-replicate 16 i every_lane 0 l) f.followed e.entered;
+    }

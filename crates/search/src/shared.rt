@@ -1,0 +1,32 @@
+// Words of numbers that agree on what decides which rules are on are served by one of them: the word that has of their members those that matter.
+ghost use Rattle.std.specs.Prelude.{◌≡◌, ◌*◌, ◌≤◌, length};
+ghost use Rattle.search.specs.Shared.{Relevant, SharedUntil};
+
+// The members that decide for which numbers the rules are on; perhaps others.
+pub fn relevant(rules: &[u16], n: usize) -> u16
+    requires { 4 * n ≤ length rules.now }
+    ensures { Relevant rules.now n result }
+{
+    let mut all = 0;
+    let mut r = 0;
+    while r < n {
+        all = all | rules[4 * r + 2] | rules[4 * r + 3];
+        r += 1;
+    }
+    all
+}
+
+// For each number of the plane `active`, `any` has the one that serves it.
+pub fn share(active: &[u64], parting: usize, any: &mut [u64])
+    requires { length any.old ≡ length active.now }
+    ensures any_len_unchanged { length any.new ≡ length any.old }
+    ensures shared_until { SharedUntil parting (length active.now) active.now any.new }
+{
+    let mut w = 0;
+    while w < active.len() {
+        any[w] = 0;
+        let c = w & parting;
+        any[c] = any[c] | active[w];
+        w += 1;
+    }
+}

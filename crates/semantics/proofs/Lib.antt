@@ -1,0 +1,3 @@
+-- Theorems: the papers' reading of the definitions. Examples: known sheets, computed.
+pub mod Theorems
+pub mod Examples

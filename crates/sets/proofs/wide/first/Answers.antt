@@ -1,0 +1,13 @@
+-- `sets::wide::first` meets its contract. Assumes nothing.
+use Prim.Native.Nat.{◌^◌, ◌<◌}
+use native.Mathlib.Omega.{arith}
+use lib.Count.{trailing_le}
+use Rattle.sets.specs.Members.{∈_below}
+use Rattle.sets.specs.Least.{first_is}
+use Rattle.sets.proofs.wide.first.Goals as goal
+
+pub overflow_cast-result : goal.overflow_cast-result
+overflow_cast-result c = record { fits = omega (arith, trailing_le 64 c.args.x) }
+
+pub returns : goal.returns
+returns c = let x = c.args.x in let h : x < 2 ^ 64 = omega arith in let f = first_is 64 x c.requires h in (f, ∈_below h f.is_in)

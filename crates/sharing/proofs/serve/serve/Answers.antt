@@ -1,0 +1,59 @@
+-- `sharing::serve::serve` meets its contract. Assumes nothing.
+use mathlib.Core.Path.{refl, sym, ap, ◌∙◌}
+use mathlib.Core.List.{map}
+use lib.ListN.{length}
+use Rattle.semantics.specs.Definitions.Sharing.{granted, carried, lent_after}
+use Rattle.sharing.specs.Handed.{four}
+use Rattle.sharing.proofs.Handing.{carried_is, handed_is, all_fit, one_short}
+use Rattle.sharing.proofs.serve.serve.Goals as goal
+
+pub rounds-states-requires : goal.rounds-states-requires
+rounds-states-requires c =
+    let pre = c.requires in
+    (pre.0, pre.1, pre.2, refl, refl, c.guesses-order.ensures, pre.3)
+
+pub first_short-refusal-requires : goal.first_short-refusal-requires
+first_short-refusal-requires c =
+    let run = c.rounds-states.ensures in
+    (c.requires.0, run.result_len.0, refl, λ q _. (run.few_all q).0)
+
+pub hand_all-requires : goal.hand_all-requires
+hand_all-requires c =
+    let a = c.args in
+    let run = c.rounds-states.ensures in
+    let fits = c.in-None.ensures in
+    (run.result_len.0, run.records_len_unchanged, run.few_all, fits)
+
+pub shares_of-requires : goal.shares_of-requires
+shares_of-requires c = let run = c.rounds-states.ensures in (run.result_len.0, run.few_all)
+
+pub returns-in-At : goal.returns-in-At
+returns-in-At c =
+    let a = c.args in
+    let run = c.rounds-states.ensures.result_len in
+    let states = c.rounds-states.result in
+    let records = c.rounds-states.new.records in
+    let rooms = map length (four a.oa.now a.ob.now a.oc.now a.od.now) in
+    let short = c.in-At.ensures in
+    let is = one_short a.sources a.words.now a.n a.allowance states records c.requires.0 run.1 run.2 run.3 rooms short in
+    record {
+      result_value = sym (ap carried is);
+      od_after = sym (ap (λ r. lent_after r (four a.oa.now a.ob.now a.oc.now a.od.now)) is);
+    }
+
+pub returns-in-None : goal.returns-in-None
+returns-in-None c =
+    let a = c.args in
+    let run = c.rounds-states.ensures.result_len in
+    let states = c.rounds-states.result in
+    let records = c.rounds-states.new.records in
+    let few = c.requires.0 in
+    let rooms = map length (four a.oa.now a.ob.now a.oc.now a.od.now) in
+    let fits = c.in-None.ensures in
+    let is = all_fit a.sources a.words.now a.n a.allowance states records few run.1 run.2 run.3 rooms fits in
+    let put = c.hand_all.ensures in record {
+      result_value = ap granted (c.shares_of.ensures ∙ carried_is a.sources a.words.now a.n a.allowance states records few run.1 run.2 run.3) ∙ sym (ap carried is);
+      od_after = (λ i. four (put.oa_after i) (put.ob_after i) (put.oc_after i) (put.od_after i))
+          ∙ sym (handed_is a.sources a.words.now a.n a.allowance states records few run.1 run.2 run.3 a.oa.now a.ob.now a.oc.now a.od.now)
+          ∙ sym (ap (λ r. lent_after r (four a.oa.now a.ob.now a.oc.now a.od.now)) is);
+    }

@@ -1,0 +1,12 @@
+-- `table::fill::fill` meets its contract. Assumes nothing.
+use Prim.Native.Nat.{◌-◌, ◌≤◌}
+use mathlib.Core.Path.{◌≡◌}
+use lib.ListN.{length}
+use Rattle.table.proofs.Filling.{After}
+use Rattle.table.proofs.fill.fill.Given as goal
+
+abbrev pub invariant-loop-i : goal.invariant-loop-i
+invariant-loop-i l = (l.i ≤ l.end) × (length l.room ≡ 284) × (length l.on ≡ 71) × (length l.stable ≡ length l.initial.stable) × (length l.table ≡ length l.initial.table) × After l.x l.words l.initial.active l.i l.active l.table
+
+abbrev pub decreases-loop-i : goal.decreases-loop-i
+decreases-loop-i l = l.end - l.i

@@ -1,0 +1,48 @@
+-- `table::fill::note_set` meets its contract. Assumes nothing.
+use mathlib.Core.Path.{refl, ◌∙◌}
+use native.Mathlib.Omega.{arith}
+use Rattle.guess.specs.Numbered.{few_of}
+use Rattle.table.proofs.Sets.{need_is, stable-at, none-stable, some-rules}
+use Rattle.table.specs.Tried.{tried_rules, tried_none}
+use Rattle.table.proofs.fill.note_set.Goals as goal
+
+pub found-needed-requires : goal.found-needed-requires
+found-needed-requires c = few_of c.requires.table.1
+
+pub gather-requires : goal.gather-requires
+gather-requires c =
+    let o = c.requires.table.1 in
+    (o, c.requires.table.2, c.found-needed.ensures ∙ need_is o c.args.i c.requires.table.3, c.requires.rules_in_bounds.0)
+
+pub returns-in_default : goal.returns-in_default
+returns-in_default c =
+    let a = c.args in
+    let g = c.gather in
+    let fails = none-stable a.x a.words.now a.i g.new.room g.result g.ensures.gathered_at c.in_default.is in
+    record {
+      room_len_unchanged = (g.ensures.room_len_unchanged, refl, refl);
+      tried = tried_none a.i _ a.active.now a.table.now fails;
+    }
+
+pub note_rules-requires : goal.note_rules-requires
+note_rules-requires c =
+    let a = c.args in
+    let p = c.requires.table in
+    let q = c.requires.rules_in_bounds in
+    let r = c.requires.active_in_bounds in
+    let g = c.gather in
+    let some = some-rules a.x a.words.now a.i g.new.room g.result g.ensures.gathered_at c.in-Rules.is in
+    (p.0, omega (arith, some.0, g.ensures.room_len_unchanged, q.0), omega (arith, some.0, q.1), q.2, q.3, r.0, r.1)
+
+pub returns : goal.returns
+returns c =
+    let a = c.args in
+    let o = c.requires.table.1 in
+    let g = c.gather in
+    let some = some-rules a.x a.words.now a.i g.new.room g.result g.ensures.gathered_at c.in-Rules.is in
+    let n = c.note_rules.ensures in
+    let needed = c.found-needed.ensures ∙ need_is o a.i c.requires.table.3 in
+    record {
+      room_len_unchanged = (g.ensures.room_len_unchanged, n.on_len_unchanged, n.stable_len_unchanged);
+      tried = tried_rules needed (λ h. stable-at a.i h some.1) n.set_noted;
+    }

@@ -1,0 +1,31 @@
+-- A set that was tried for all guesses at once, where S says for which it is stable. Assumes nothing.
+use Rattle.std.specs.Prelude.{ℕ, ◌*◌, ◌<◌, ◌≡◌, refl, List, ◌↔◌, length}
+use Rattle.sets.specs.Sets.{◌⊆◌}
+use Rattle.lanes.specs.Planes.{◌in_plane◌}
+use Rattle.lanes.specs.Stable.{StableFor}
+use Rattle.lanes.specs.Noted.{Noted, noted_iff, noted-none}
+use Rattle.lanes.specs.Step.{SetNoted}
+
+-- of the active guesses for which the set i is stable, those that lack something it needs leave, and the others take it in
+pub record Tried (S : ℕ → Type 0) (i needed : ℕ) (active table active' table' : List ℕ) : Type 0 where
+  pub long : length active' ≡ length active
+  pub left : {g : ℕ} → g < 64 * length active → g in_plane active' ↔ ((g in_plane active) × (S g → needed ⊆ g))
+  pub entries : Noted (λ g. (g < 64 * length active) × (g in_plane active) × S g × (needed ⊆ g)) i table table'
+
+module _ {S : ℕ → Type 0} {i needed : ℕ} {active table active' table' : List ℕ} where
+  -- as the lanes say it
+  pub tried_rules : {rules : List ℕ} {n q : ℕ} → q ≡ needed → ((g : ℕ) → StableFor rules n i g ↔ S g) → SetNoted rules n i q active table active' table'
+      → Tried S i needed active table active' table'
+  tried_rules e f u = let t = rw e at u in record {
+    long = t.long;
+    left = λ {g} h. (λ m. let (a, k) = (t.left h).0 m in (a, λ y. k ((f g).1 y)), λ p. (t.left h).1 (p.0, λ y. p.1 ((f g).0 y)));
+    entries = noted_iff (λ g. (λ p. (p.0, p.1, (f g).0 p.2, p.3), λ p. (p.0, p.1, (f g).1 p.2, p.3))) t.entries;
+  }
+
+-- where it is stable for none, all stays
+pub tried_none : {S : ℕ → Type 0} (i needed : ℕ) (active table : List ℕ) → ((g : ℕ) → S g → ⊥) → Tried S i needed active table active table
+tried_none i needed active table f = record {
+  long = refl;
+  left = λ {g} h. (λ a. (a, λ y. absurd (f g y)), λ p. p.0);
+  entries = noted-none i (λ g p. f g p.2);
+}

@@ -1,0 +1,4 @@
+-- What the proofs cite: the entries before any set, the rules at a set in words, and the table set after set.
+pub mod Cleared
+pub mod Sets
+pub mod Filling

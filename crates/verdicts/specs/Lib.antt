@@ -1,0 +1,2 @@
+-- The verdicts on all guesses, as the code has them: planes, and a table of three words a guess.
+pub mod Tables

@@ -1,0 +1,103 @@
+// The table: three words a guess, for the guesses of a plane. Each set of atoms that some guess may make stable is tried once, for all of them.
+ghost use Rattle.std.specs.Prelude.{◌≡◌, ℕ, ◌+◌, ◌*◌, ◌^◌, ◌<◌, ◌≤◌, length, get_or};
+ghost use Rattle.semantics.specs.Definitions.Sheet.{most_atoms};
+ghost use Rattle.semantics.specs.AtSet.{need, StableBy};
+ghost use Rattle.guess.specs.Programs.{unmasked_in, Outlines};
+ghost use Rattle.lanes.specs.Cube.{Table};
+ghost use Rattle.lanes.specs.Planes.{◌in_plane◌};
+ghost use Rattle.search.specs.Tried.{Tried};
+ghost use Rattle.gather.specs.Digests.{Digested};
+ghost use Rattle.gather.specs.Gathers.{at_set};
+ghost use Rattle.verdicts.specs.Tables.{Blank, Filled};
+
+use candidates::candidates;
+use gather::digest::digest_all;
+use gather::{Gathered, gather};
+use guess::negations::found;
+use guess::outline::Outline;
+use lanes::cube::patterns;
+use search::note_rules;
+use sets::wide::member;
+use sets::{full, power};
+
+// The entries of the first guesses before any set: every atom known, none possible, no set.
+fn clear(table: &mut [u16], guesses: usize, atoms: usize)
+    requires { (3 * guesses ≤ length table.old) × (atoms ≤ most_atoms) }
+    ensures table_len_unchanged { length table.new ≡ length table.old }
+    ensures blank { Blank guesses atoms table.new }
+{
+    let all = full(atoms as u16);
+    let mut g = 0;
+    while g < guesses {
+        let at = 3 * g;
+        table[at] = all;
+        table[at + 1] = 0;
+        table[at + 2] = 0;
+        g += 1;
+    }
+}
+
+// One set more: the active guesses for which it is stable, the day's masks aside, take it in, or leave where they lack something it needs. `room`, `on`
+// and `stable` are room to work in.
+fn note_set(
+    low: &[u64; 128],
+    words: &[u16],
+    x: Outline,
+    digests: &[u16],
+    i: u16,
+    room: &mut [u16],
+    on: &mut [u64],
+    stable: &mut [u64],
+    active: &mut [u64],
+    table: &mut [u16],
+)
+    requires table { Table low.now × Outlines x words.now × Digested x words.now digests.now × (i < 2 ^ x.atoms) }
+    requires rules_in_bounds { (4 * x.rules ≤ length room.old) × (x.rules ≤ length on.old) × (length stable.old ≡ length active.old) × (length active.old ≤ 1024) }
+    requires active_in_bounds { (192 * length active.old ≤ length table.old) × ((g : ℕ) → g in_plane active.old → get_or table.old (3 * g + 2) 0 < 65535) }
+    ensures room_len_unchanged { (length room.new ≡ length room.old) × (length on.new ≡ length on.old) × (length stable.new ≡ length stable.old) }
+    ensures tried { Tried (StableBy (at_set x words.now i) i) i (need (unmasked_in x words.now) i) active.old table.old active.new table.new }
+{
+    let needed = found(x, i, i);
+    let Gathered::Rules(n) = gather(words, x, digests, i, needed, &mut room[..]) else {
+        return;
+    };
+    note_rules(low, &room[..], n, i, needed, on, stable, active, table);
+}
+
+// All candidates, for the guesses of the plane `active`: no guess makes another set stable. `stable` is room to work in.
+pub fn fill(words: &[u16], x: Outline, stable: &mut [u64], active: &mut [u64], table: &mut [u16])
+    requires { Outlines x words.now × (length active.old ≤ 64) × (length stable.old ≡ length active.old) × (192 * length active.old ≤ length table.old) }
+    ensures stable_len_unchanged { length stable.new ≡ length stable.old }
+    ensures active_len_unchanged { (length active.new ≡ length active.old) × (length table.new ≡ length table.old) }
+    ensures filled { Filled x words.now active.old active.new table.new }
+{
+    let low = patterns();
+    let mut digests = [0u16; 426];
+    digest_all(words, x, &mut digests[..]);
+    clear(&mut table[..], 64 * active.len(), x.atoms);
+    let end = power(x.atoms as u16);
+    let mut room = [0u16; 284];
+    let mut on = [0u64; 71];
+    let mut sets = 0;
+    let mut i = 0;
+    while i != end {
+        if i % 64 == 0 {
+            sets = candidates(&low, words, x, &digests[..], i / 64);
+        }
+        if member((i % 64) as u64, sets) {
+            note_set(
+                &low,
+                words,
+                x,
+                &digests[..],
+                i,
+                &mut room[..],
+                &mut on[..],
+                &mut stable[..],
+                &mut active[..],
+                &mut table[..],
+            );
+        }
+        i += 1;
+    }
+}
