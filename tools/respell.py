@@ -16,6 +16,8 @@ END = r"\s(){}\[\].,;:@`\"⟦⟧⌜⌝"
 TOKEN = re.compile("[^" + END + "]+")
 MARKS = r"(?:(?:abbrev|unfoldable|record|data|pub|opaque|pattern)\s+)*"
 DECLARED = re.compile(r"^(\s*)(" + MARKS + r")((?:[^" + END + r"]+\s+)*[^" + END + r"]+)\s*(?=[:({])")
+# Lines of proof files whose names the toolchain fixes.
+ANSWER = re.compile(r" : (?:tie|goal)\.|\bstatement M\b")
 DEFINES = re.compile("abbrev|unfoldable|record|data")
 TYPE = re.compile(r"[A-Z][a-z]+\w*")
 # Names that would fall together with another one where both are used.
@@ -32,6 +34,7 @@ CHOSEN = {
 KNOWN = set(
     "length map take drop keep foldl foldr fold get_or reverse sum max min suc append concat size member subset insert filter".split()
 )
+IMPORT = re.compile(r"^(?:ghost )?(?:pub )?use ([^{\n;]+)\.\{([^}]*)\}", re.M)
 KEYWORDS = {"let", "in", "use", "mod", "where", "if", "then", "else", "for", "private", "infix", "infixl", "infixr", "record", "module", "open"}
 
 
@@ -50,7 +53,9 @@ def snake(p):
 def respelled(name, names):
     name = name.replace("getD", "get_or")
     parts = name.split("-")
-    if "◌" in name or len(name) == 1 or "" in parts:
+    if "◌" in name:
+        return name.replace("-", "_") if re.search(r"\w", name) else name
+    if len(name) == 1 or "" in parts or parts[0] in ("then", "else"):
         return name
     new = [snake(p) for p in parts]
     if len(new) == 2 and all(p in names or TYPE.fullmatch(p) or is_symbol(p) for p in new):
@@ -66,13 +71,24 @@ def sources(top):
     return sorted(specs + proofs)
 
 
+def imported(top):
+    """The names that are imported from the toolchain's libraries."""
+    crates = {line.split(":")[0] for line in open(top + "/crates.txt", encoding="utf-8")}
+    names = set()
+    for path in sources(top) + glob.glob(top + "/crates/*/src/**/*.rt", recursive=True):
+        for module, listed in IMPORT.findall(open(path, encoding="utf-8").read()):
+            if module.split(".")[:2][-1] not in crates:
+                names |= {n.split(" as ")[0].strip() for n in listed.split(",")}
+    return names
+
+
 def declared(top):
     """The names that the files of definitions and lemmas declare, fields and constructors too, and those of them that are definitions."""
     own, definitions = set(), set()
     for path in sources(top):
-        if path.endswith("/Proof.antt"):
-            continue
         for line in open(path, encoding="utf-8"):
+            if ANSWER.search(line):
+                continue
             own |= set(re.findall(r"^\s+deriving \S+ as (\S+)", line))
             m = DECLARED.match(line)
             if line.lstrip().startswith("--") or not m:
@@ -81,6 +97,7 @@ def declared(top):
             if set(words) & KEYWORDS or re.search("[=→λ∀]", m.group(3)):
                 continue
             own |= set(words)
+            own |= {w for word in words if "◌" in word for w in word.split("◌") if "-" in w}
             if DEFINES.search(m.group(2)):
                 definitions |= set(words)
     return own, definitions
@@ -97,7 +114,8 @@ def pairs(top):
         for n in olds:
             if len(olds) > 1 and "-" in n:
                 table[n] = new + "_lem"
-    return {n: new for n, new in table.items() if n != new}
+    outside = imported(top)
+    return {n: new for n, new in table.items() if n != new and n not in outside}
 
 
 def rewrite_words(text, table):

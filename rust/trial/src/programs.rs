@@ -6,10 +6,10 @@ use std::path::PathBuf;
 use std::process::{Child, ChildStdin, Command, Stdio};
 use std::thread::{self, JoinHandle};
 
-/// Where a program stands: `target/bin` at the repository's root.
+/// Where a program stands: in the folder `out` of its crate.
 fn path(name: &str) -> PathBuf {
-    let path = PathBuf::from(env!("CARGO_MANIFEST_DIR")).join("../../target/bin").join(name);
-    assert!(path.is_file(), "{} is missing: run `rt check views calls` at the repository's root first", path.display());
+    let path = PathBuf::from(env!("CARGO_MANIFEST_DIR")).join("../../crates").join(name).join("out").join(name);
+    assert!(path.is_file(), "{} is missing: run `rt run < /dev/null` in crates/{name} first", path.display());
     path
 }
 
