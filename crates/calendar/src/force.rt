@@ -5,7 +5,8 @@ ghost use Rattle.semantics.specs.Definitions.Calendar.{open_at, entries_of, rule
 ghost use Rattle.calendar.specs.Entries.{entries_in, Numbered, Entries};
 ghost use Rattle.calendar.specs.Force.{unrestricted as unrestrictedOf, held_from};
 
-use sets::wide::include;
+use sets::Set;
+
 
 // Is the minute in the hours from first to end?
 fn open_at(first: u16, end: u16, minute: u16) -> bool
@@ -39,11 +40,11 @@ pub fn unrestricted(entries: &[u16], n: usize, rules: usize) -> u64
     requires { (3 * n ≤ length entries.now) × (rules ≤ 64) }
     ensures { result ≡ unrestrictedOf (entries_in entries.now n) rules }
 {
-    let mut set = 0;
+    let mut set = 0u64;
     let mut rule = 0;
     while rule < rules {
         let some = restricted(entries, n, rule as u16);
-        set = include(set, rule as u64, !some);
+        set = set.include(rule as u64, !some);
         rule += 1;
     }
     set
@@ -58,7 +59,7 @@ pub fn with_held(entries: &[u16], n: usize, set: u64, minute: u16) -> u64
     let mut i = 0;
     while i < n {
         let open = open_at(entries[3 * i + 1], entries[3 * i + 2], minute);
-        held = include(held, entries[3 * i] as u64, open);
+        held = held.include(entries[3 * i] as u64, open);
         i += 1;
     }
     held

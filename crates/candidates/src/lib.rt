@@ -15,8 +15,8 @@ ghost use Rattle.candidates.specs.Candidates.{Candidates};
 use gather::digest::digest_at;
 use guess::outline::Outline;
 use lanes::cube::cube;
-use sets::wide::minus;
 use support::{all_supported, supported_sets};
+use sets::Set;
 
 // The lanes, of these, of word w, less those in which a rule without K and M fails: its body holds there, and no head atom is there.
 fn objective_models(low: &[u64; 128], digests: &[u16], rules: usize, w: u16, lanes: u64) -> u64
@@ -28,7 +28,7 @@ fn objective_models(low: &[u64; 128], digests: &[u16], rules: usize, w: u16, lan
     while j < rules {
         let r = digest_at(digests, j);
         if r.barred | r.asked == 0 {
-            left = minus(left, cube(low, r.nots | r.head, r.body, w));
+            left = left.minus(cube(low, r.nots | r.head, r.body, w));
         }
         j += 1;
     }

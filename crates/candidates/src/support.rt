@@ -9,8 +9,7 @@ ghost use Rattle.candidates.specs.Rules.{SupportAdded, SupportsIn, Supported};
 
 use gather::digest::{Digest, digest_at};
 use lanes::cube::cube;
-use sets::wide::minus;
-use sets::{first, minus as without, power};
+use sets::{Set, power};
 
 // Adds to the words of the atoms the lanes of word w in which the rule supports them.
 fn support_by(low: &[u64; 128], r: Digest, w: u16, by: &mut [u64])
@@ -18,13 +17,13 @@ fn support_by(low: &[u64; 128], r: Digest, w: u16, by: &mut [u64])
     ensures by_len_unchanged { length by.new ≡ length by.old }
     ensures support_added { SupportAdded r w by.old by.new }
 {
-    let mut rest = without(r.head, r.plain);
+    let mut rest = r.head.minus(r.plain);
     while rest > 0 {
-        let a = first(rest);
+        let a = rest.first();
         let one = power(a as u16);
         let sets = cube(
             low,
-            r.nots | without(r.head, one),
+            r.nots | r.head.minus(one),
             r.body | r.plain | one,
             w,
         );
@@ -56,7 +55,7 @@ pub fn all_supported(low: &[u64; 128], atoms: usize, w: u16, by: &[u64], lanes: 
     let mut a = 0;
     while a < atoms {
         let having = cube(low, 0, power(a as u16), w);
-        left = minus(left, minus(having, by[a]));
+        left = left.minus(having.minus(by[a]));
         a += 1;
     }
     left

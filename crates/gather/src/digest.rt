@@ -7,7 +7,7 @@ ghost use Rattle.gather.specs.Digests.{digest_of, digest_in, Digested};
 
 use guess::negations::found;
 use guess::outline::Outline;
-use sets::{full, minus};
+use sets::{Set, full};
 
 // Of a rule its head; its plain and "not not" atoms; its "not" atoms; its plain and K atoms; the negations of its K and "not M" literals, which bar it
 // where a guess has them; and those of its "not K" and M literals, which it asks for.
@@ -36,8 +36,8 @@ fn digest_of(words: &[u16], x: Outline, j: usize) -> Digest
         body: plain | words[at + 3],
         nots: words[at + 2],
         plain: plain | known,
-        barred: found(x, minus(all, known), words[at + 7]),
-        asked: found(x, minus(all, unknown), words[at + 6]),
+        barred: found(x, all.minus(known), words[at + 7]),
+        asked: found(x, all.minus(unknown), words[at + 6]),
     }
 }
 

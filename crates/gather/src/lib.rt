@@ -13,7 +13,7 @@ ghost use Rattle.gather.specs.Gathers.{GatheredAt, rule_at, rule_from};
 
 use digest::{Digest, digest_at};
 use guess::outline::Outline;
-use sets::{has_and_lacks, meets, minus, size, subset};
+use sets::{Set, has_and_lacks, meets, size, subset};
 
 // What is gathered at a set: no guess makes it stable; or so many rules.
 #[derive(Clone, Copy)]
@@ -49,7 +49,7 @@ fn at_set(r: Digest, i: u16, needed: u16) -> AtSet
         head: r.head & i,
         plain: r.plain,
         misses: r.barred,
-        holds: minus(r.asked, needed),
+        holds: r.asked.minus(needed),
     }
 }
 
@@ -58,7 +58,7 @@ fn supported(e: AtSet) -> u16
     ensures { (a : ℕ) → Supports (rule_from e) a → a ∈ result }
 {
     if size(e.head) == 1 {
-        return minus(e.head, e.plain);
+        return e.head.minus(e.plain);
     }
     0
 }

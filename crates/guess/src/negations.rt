@@ -3,7 +3,7 @@ ghost use Rattle.std.specs.Prelude.{◌≡◌, cond};
 ghost use Rattle.guess.specs.Negations.{Few, assumed_by, found_by};
 
 use super::outline::Outline;
-use sets::{include, member};
+use sets::Set;
 
 // The atoms a whose "not K a" is in a guess, and those whose "M a" is.
 #[derive(Clone, Copy)]
@@ -28,19 +28,19 @@ pub fn assumed(x: Outline, guess: u16) -> Assumptions
     ensures { result ≡ assumed_by x guess }
 {
     let n = x.atoms as u16;
-    let mut unknown = 0;
-    let mut maybe = 0;
+    let mut unknown = 0u16;
+    let mut maybe = 0u16;
     // the number of the next negation
     let mut j = 0;
     let mut a = 0;
     while a < n {
-        let k = member(a, x.k_atoms);
-        let k_in = member(j, guess);
-        unknown = include(unknown, a, k & k_in);
+        let k = x.k_atoms.has(a);
+        let k_in = guess.has(j);
+        unknown = unknown.include(a, k & k_in);
         j = j + one_if(k);
-        let m = member(a, x.m_atoms);
-        let m_in = member(j, guess);
-        maybe = include(maybe, a, m & m_in);
+        let m = x.m_atoms.has(a);
+        let m_in = guess.has(j);
+        maybe = maybe.include(a, m & m_in);
         j = j + one_if(m);
         a += 1;
     }
@@ -53,17 +53,17 @@ pub fn found(x: Outline, known: u16, possible: u16) -> u16
     ensures { result ≡ found_by x known possible }
 {
     let n = x.atoms as u16;
-    let mut guess = 0;
+    let mut guess = 0u16;
     let mut j = 0;
     let mut a = 0;
     while a < n {
-        let k = member(a, x.k_atoms);
-        let unknown = !member(a, known);
-        guess = include(guess, j, k & unknown);
+        let k = x.k_atoms.has(a);
+        let unknown = !known.has(a);
+        guess = guess.include(j, k & unknown);
         j = j + one_if(k);
-        let m = member(a, x.m_atoms);
-        let may = member(a, possible);
-        guess = include(guess, j, m & may);
+        let m = x.m_atoms.has(a);
+        let may = possible.has(a);
+        guess = guess.include(j, m & may);
         j = j + one_if(m);
         a += 1;
     }

@@ -6,7 +6,7 @@ ghost use Rattle.guess.specs.Acted.{acted_on, deleted_by, reduced_by, Cleared};
 
 use super::negations::{Assumptions, assumed};
 use super::outline::Outline;
-use sets::{meets, minus};
+use sets::{Set, meets};
 
 // What is done to a mask of a rule: its literals, or those that are not removed, join one of the four masks of the reduct; or the rule is
 // deleted.
@@ -29,8 +29,8 @@ fn act(i: usize, mask: u16, by: Assumptions) -> Acted
             }
             Acted::Join(1, mask)
         }
-        5 => Acted::Join(2, minus(mask, by.unknown)),
-        6 => Acted::Join(3, minus(mask, by.maybe)),
+        5 => Acted::Join(2, mask.minus(by.unknown)),
+        6 => Acted::Join(3, mask.minus(by.maybe)),
         _ => {
             if meets(mask, by.maybe) {
                 return Acted::Delete;

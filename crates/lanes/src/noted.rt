@@ -7,7 +7,7 @@ ghost use Rattle.lanes.specs.Noted.{Noted, InWord};
 ghost use Rattle.lanes.specs.Step.{WordNoted, PlaneNoted};
 
 use super::cube::cube;
-use sets::wide::{first, minus};
+use sets::Set;
 
 // The entry of g takes the set i in.
 fn take_in(table: &mut [u16], g: usize, i: u16)
@@ -31,7 +31,7 @@ pub fn note_lanes(table: &mut [u16], w: usize, lanes: u64, i: u16)
 {
     let mut rest = lanes;
     while rest > 0 {
-        let b = first(rest);
+        let b = rest.first();
         take_in(table, 64 * w + b, i);
         rest = rest & (rest - 1);
     }
@@ -57,7 +57,7 @@ pub fn note_word(
         return;
     }
     let having = cube(low, 0, needed, w as u16);
-    active[w] = minus(old, minus(these, having));
+    active[w] = old.minus(these.minus(having));
     note_lanes(table, w, these & having, i);
 }
 

@@ -6,8 +6,7 @@ ghost use Rattle.sets.specs.Sets.{◌∈◌};
 ghost use Rattle.lanes.specs.Lanes.{Lanes};
 ghost use Rattle.lanes.specs.Smaller.{Fails, Passes, Passed};
 
-use sets::wide::minus;
-use sets::{meets, subset};
+use sets::{Set, meets, subset};
 
 // Does rule r fail in s?
 pub fn fails(rules: &[u16], r: usize, s: u16) -> bool
@@ -28,7 +27,7 @@ fn passing(rules: &[u16], n: usize, on: &[u64], s: u16, lanes: u64) -> u64
     let mut r = 0;
     while r < n {
         if fails(rules, r, s) {
-            left = minus(left, on[r]);
+            left = left.minus(on[r]);
             if left == 0 {
                 return 0;
             }
@@ -47,7 +46,7 @@ pub fn smaller_sets(rules: &[u16], n: usize, on: &[u64], i: u16, lanes: u64) -> 
     let mut s = i;
     while s > 0 {
         s = (s - 1) & i;
-        let left = minus(lanes, found);
+        let left = lanes.minus(found);
         if left == 0 {
             return found;
         }

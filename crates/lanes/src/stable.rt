@@ -9,7 +9,7 @@ ghost use Rattle.lanes.specs.Stable.{HeadsMeet, LanesOn, StableFor};
 
 use super::cube::cube;
 use super::smaller::smaller_sets;
-use sets::wide::minus;
+use sets::Set;
 
 // The lanes, of these, of word w in which no rule that is on has an empty head.
 pub fn models(low: &[u64; 128], rules: &[u16], n: usize, w: u16, lanes: u64) -> u64
@@ -20,7 +20,7 @@ pub fn models(low: &[u64; 128], rules: &[u16], n: usize, w: u16, lanes: u64) -> 
     let mut r = 0;
     while r < n {
         if rules[4 * r] == 0 {
-            left = minus(left, cube(low, rules[4 * r + 2], rules[4 * r + 3], w));
+            left = left.minus(cube(low, rules[4 * r + 2], rules[4 * r + 3], w));
         }
         r += 1;
     }
@@ -62,7 +62,7 @@ pub fn stable_lanes(
     }
     switch_on(low, rules, n, w, model, on);
     let small = smaller_sets(rules, n, on, i, model);
-    minus(model, small)
+    model.minus(small)
 }
 
 // The active numbers for which i is stable.

@@ -8,8 +8,7 @@ ghost use Rattle.opened.specs.Fetched.{RulesBegin};
 ghost use Rattle.opened.specs.Loaded.{RulesLoad, RulesLoadOnly, Atoms, constraint_masks, Loads, LoadsOnly};
 
 use super::{Fetched, fetch};
-use sets::power;
-use sets::wide::member;
+use sets::{Set, power};
 use sheet::{Contents, word};
 
 // Writes rule n, whose sixteen bytes begin at a place, as eight words.
@@ -72,7 +71,7 @@ fn load_rules_in(s: &[u8], rules_at: usize, rules: usize, set: u64, out: &mut [u
         let Fetched::Rule { place } = fetched else {
             return n;
         };
-        n = load_where(s, place, &mut out[..], n, member(number as u64, set));
+        n = load_where(s, place, &mut out[..], n, set.has(number as u64));
         number += 1;
     }
 }

@@ -17,7 +17,7 @@ ghost use Rattle.propagation.specs.Pairs.{pair_from, EntersBy, SupportedBy, Clas
 
 use guess::negations::found;
 use guess::outline::Outline;
-use sets::{full, meets, minus, size, subset};
+use sets::{Set, full, meets, size, subset};
 
 // The sets T and F.
 #[derive(Clone, Copy)]
@@ -65,7 +65,7 @@ fn entering(program: &[u16], j: usize, pair: Pair) -> u16
 {
     if sure(program, j, pair) {
         let all = head(program, j);
-        let rest = minus(all, pair.f);
+        let rest = all.minus(pair.f);
         return match size(rest) {
             0 => all,
             1 => rest,
@@ -100,7 +100,7 @@ fn pass(program: &[u16], rules: usize, atoms: usize, pair: Pair) -> Pair
         kept = kept | supported(program, j, pair);
         j += 1;
     }
-    let f = pair.f | minus(all, kept);
+    let f = pair.f | all.minus(kept);
     Pair {
         t: t & all,
         f: f & all,
@@ -149,7 +149,7 @@ fn clash(x: Outline, guess: u16, pair: Pair) -> bool
     requires { Few x × (guess < 2 ^ length (negations_by x)) }
     ensures { Decides (Clashes (negations_by x) guess (pair_from pair)) result }
 {
-    let outside = minus(full(x.atoms as u16), pair.f);
+    let outside = full(x.atoms as u16).minus(pair.f);
     let least = found(x, outside, pair.t);
     let most = found(x, pair.t, outside);
     let above = subset(least, guess);

@@ -4,7 +4,8 @@ ghost use Rattle.sets.specs.Lists.{every};
 ghost use Rattle.sets.specs.Sets.{◌∈?◌};
 ghost use Rattle.records.specs.Records.{views_in};
 
-use sets::member;
+use sets::Set;
+
 
 // Is the atom known in each of the first n records?
 pub fn known_in_all(records: &[u16], n: usize, atom: u16) -> bool
@@ -13,7 +14,7 @@ pub fn known_in_all(records: &[u16], n: usize, atom: u16) -> bool
 {
     let mut j = 0;
     while j < n {
-        if !member(atom, records[4 * j + 1]) {
+        if !records[4 * j + 1].has(atom) {
             return false;
         }
         j += 1;
@@ -28,7 +29,7 @@ pub fn possible_in_none(records: &[u16], n: usize, atom: u16) -> bool
 {
     let mut j = 0;
     while j < n {
-        if member(atom, records[4 * j + 2]) {
+        if records[4 * j + 2].has(atom) {
             return false;
         }
         j += 1;

@@ -7,7 +7,7 @@ ghost use Rattle.ruling.specs.Assumed.{Numbers, AssumedIn};
 use guess::negations::found;
 use guess::outline::Outline;
 use lanes::cube::cube;
-use sets::{full, minus, power, wide};
+use sets::{Set, full, power};
 
 // By atom, the number of "not K a" as a set at a, and that of "M a" at 16 + a; the empty set where there is none.
 pub fn number(x: Outline, numbers: &mut [u16])
@@ -19,7 +19,7 @@ pub fn number(x: Outline, numbers: &mut [u16])
     let mut a = 0;
     while a < x.atoms {
         let one = power(a as u16);
-        numbers[a] = found(x, minus(all, one), 0);
+        numbers[a] = found(x, all.minus(one), 0);
         numbers[16 + a] = found(x, all, one);
         a += 1;
     }
@@ -34,7 +34,7 @@ pub fn assume(low: &[u64; 128], numbers: &[u16], from: usize, w: u16, lanes: &mu
     let mut a = 0;
     while a < 16 {
         let left_out = cube(low, numbers[from + a], 0, w);
-        lanes[a] = wide::minus(0xFFFFFFFFFFFFFFFF, left_out);
+        lanes[a] = u64::MAX.minus(left_out);
         a += 1;
     }
 }

@@ -4,8 +4,7 @@ ghost use Rattle.lanes.specs.Lanes.{Lanes};
 ghost use Rattle.ruling.specs.Contradiction.{EmptyHeadIn, ClashIn};
 
 use super::literals::sure;
-use sets::first;
-use sets::wide::minus;
+use sets::Set;
 
 // The lanes in which a rule with an empty head is sure.
 pub fn empty_head(words: &[u16], rules: usize, truths: &[u64], falsities: &[u64]) -> u64
@@ -31,9 +30,9 @@ pub fn clashes(mask: u16, assumed: &[u64], with: &[u64], without: &[u64]) -> u64
     let mut lanes = 0;
     let mut rest = mask;
     while rest > 0 {
-        let a = first(rest);
+        let a = rest.first();
         let these = assumed[a];
-        lanes = lanes | ((these & with[a]) | minus(without[a], these));
+        lanes = lanes | ((these & with[a]) | without[a].minus(these));
         rest = rest & (rest - 1);
     }
     lanes

@@ -21,7 +21,7 @@ use guess::outline::Outline;
 use lanes::cube::cube;
 use literals::{in_some, lay};
 use propagate::propagate;
-use sets::{full, minus, wide};
+use sets::{Set, full};
 
 // The lanes in which T and F contradict the guess. u has by atom the lanes in which "not K a" is assumed, p those in which "M a" is.
 fn test(words: &[u16], x: Outline, u: &[u64], p: &[u64], t: &[u64], f: &[u64]) -> u64
@@ -60,7 +60,7 @@ pub fn free_lanes(low: &[u64; 128], words: &[u16], x: Outline, numbers: &[u16], 
     let mut p = [0u64; 16];
     assume(low, numbers, 0, w, &mut u[..]);
     assume(low, numbers, 16, w, &mut p[..]);
-    let guesses = cube(low, minus(full(15), full(x.negations as u16)), 0, w);
+    let guesses = cube(low, full(15).minus(full(x.negations as u16)), 0, w);
     let bad = contradicted(words, x, &u[..], &p[..]);
-    wide::minus(guesses, bad)
+    guesses.minus(bad)
 }

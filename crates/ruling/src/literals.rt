@@ -5,8 +5,8 @@ ghost use Rattle.lanes.specs.Lanes.{Lanes};
 ghost use Rattle.ruling.specs.Literals.{InAll, InSome, SureIn, DeadIn};
 ghost use Rattle.ruling.specs.Laid.{Laid};
 
-use sets::first;
-use sets::wide::minus;
+use sets::Set;
+
 
 // The lanes that are in the word of every atom of the mask; all where it has none.
 pub fn in_all(mask: u16, rows: &[u64], from: usize) -> u64
@@ -16,7 +16,7 @@ pub fn in_all(mask: u16, rows: &[u64], from: usize) -> u64
     let mut lanes = 0xFFFFFFFFFFFFFFFF;
     let mut rest = mask;
     while rest > 0 {
-        lanes = lanes & rows[from + first(rest)];
+        lanes = lanes & rows[from + rest.first()];
         rest = rest & (rest - 1);
     }
     lanes
@@ -30,7 +30,7 @@ pub fn in_some(mask: u16, rows: &[u64], from: usize) -> u64
     let mut lanes = 0;
     let mut rest = mask;
     while rest > 0 {
-        lanes = lanes | rows[from + first(rest)];
+        lanes = lanes | rows[from + rest.first()];
         rest = rest & (rest - 1);
     }
     lanes
@@ -76,7 +76,7 @@ pub fn lay(x: &[u64], less: &[u64], more: &[u64], rows: &mut [u64])
     while a < 16 {
         let lanes = x[a];
         rows[a] = lanes;
-        rows[16 + a] = minus(lanes, less[a]);
+        rows[16 + a] = lanes.minus(less[a]);
         rows[32 + a] = lanes | more[a];
         a += 1;
     }

@@ -3,7 +3,7 @@ ghost use Rattle.std.specs.Prelude.{◌≡◌, ◌+◌, ◌*◌, ◌≤◌, leng
 ghost use Rattle.ruling.specs.Pass.{Lone, Narrowed, Followed, Entered, Next};
 
 use super::literals::{dead, sure};
-use sets::{first, power};
+use sets::{Set, power};
 
 // The only atom of a head; 16 where it has none or several.
 fn lone(head: u16) -> usize
@@ -12,7 +12,7 @@ fn lone(head: u16) -> usize
     if head == 0 {
         return 16;
     }
-    let a = first(head);
+    let a = head.first();
     if power(a as u16) == head {
         return a;
     }
@@ -27,7 +27,7 @@ fn narrow(head: u16, lanes: u64, shut: &mut [u64])
 {
     let mut rest = head;
     while rest > 0 {
-        let a = first(rest);
+        let a = rest.first();
         shut[a] = shut[a] & lanes;
         rest = rest & (rest - 1);
     }

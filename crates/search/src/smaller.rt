@@ -7,19 +7,18 @@ ghost use Rattle.search.specs.Smaller.{HeadsWithin, Small};
 ghost use Rattle.search.specs.Search.{Chosen};
 
 use lanes::smaller::fails;
-use sets::wide::minus;
-use sets::{first, power};
+use sets::{Set, power};
 
 // An atom of the head of rule r that is not in `out`, alone; the empty set where there is none.
 fn choose(rules: &[u16], r: usize, out: u16) -> u16
     requires { 4 * r + 4 ≤ length rules.now }
     ensures { Chosen (get_or rules.now (4 * r) 0 ∖ out) result }
 {
-    let rest = sets::minus(rules[4 * r], out);
+    let rest = rules[4 * r].minus(out);
     if rest == 0 {
         return 0;
     }
-    power(first(rest) as u16)
+    power(rest.first() as u16)
 }
 
 // The lanes, of these, in which some proper subset of i that has every atom of j and no atom of `out` is a model of the rules that are on.
@@ -41,11 +40,11 @@ pub fn smaller(rules: &[u16], n: usize, on: &[u64], i: u16, j: u16, out: u16, la
         let these = left & on[r];
         if these != 0 {
             if fails(rules, r, j) {
-                left = minus(left, these);
+                left = left.minus(these);
                 let a = choose(rules, r, out);
                 if a != 0 {
                     let with = smaller(rules, n, on, i, j | a, out, these);
-                    let without = smaller(rules, n, on, i, j, out | a, minus(these, with));
+                    let without = smaller(rules, n, on, i, j, out | a, these.minus(with));
                     found = found | with | without;
                 }
             }

@@ -11,7 +11,7 @@ ghost use Rattle.search.specs.Smaller.{HeadsWithin};
 use super::smaller::smaller;
 use super::supported::supported;
 use lanes::stable::{models, switch_on};
-use sets::wide::minus;
+use sets::Set;
 
 // The lanes, of these, of word w for which i is stable.
 pub fn stable_lanes(
@@ -36,7 +36,7 @@ pub fn stable_lanes(
     switch_on(low, rules, n, w, model, on);
     let left = supported(rules, n, on, i, model);
     let small = smaller(rules, n, on, i, 0, 0, left);
-    minus(left, small)
+    left.minus(small)
 }
 
 // Of the numbers of a plane those are left for which i is stable.

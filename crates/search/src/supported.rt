@@ -2,7 +2,7 @@
 ghost use Rattle.std.specs.Prelude.{◌≡◌, ℕ, ◌+◌, ◌*◌, ◌<◌, ◌≤◌, length};
 ghost use Rattle.search.specs.Supported.{Supports, SupportedBy, Kept};
 
-use sets::{first, meets, power};
+use sets::{Set, meets, power};
 
 // The atom that rule r supports: its only head atom, where that is not among its plain atoms. What is answered where it supports none is left open.
 fn supports(rules: &[u16], r: usize) -> usize
@@ -13,7 +13,7 @@ fn supports(rules: &[u16], r: usize) -> usize
     if head == 0 {
         return 16;
     }
-    let a = first(head);
+    let a = head.first();
     let alone = power(a as u16) == head;
     let inside = meets(head, rules[4 * r + 1]);
     if alone & !inside {
@@ -46,7 +46,7 @@ pub fn supported(rules: &[u16], n: usize, on: &[u64], i: u16, lanes: u64) -> u64
     let mut left = lanes;
     let mut rest = i;
     while rest > 0 {
-        left = left & by[first(rest)];
+        left = left & by[rest.first()];
         rest = rest & (rest - 1);
     }
     left

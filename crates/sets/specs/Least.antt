@@ -5,7 +5,7 @@ use Rattle.std.specs.Int.Bits.{and_step, and_self, and_zero_r}
 use Rattle.std.proofs.lemmas.Nat.{and_le_l}
 use Rattle.std.specs.Int.Count.{count_trailing_zeros, under}
 use Rattle.sets.specs.Sets.{◌∈◌, ◌∩◌, ◌∖◌, single}
-use Rattle.sets.specs.Members.{∈-single}
+use Rattle.sets.specs.Members.{∈-single, ∈_below}
 use Rattle.sets.specs.Parts.{∈-from}
 
 -- a is in x, and x ∩ (x - 1) is x without a
@@ -43,3 +43,7 @@ first_is (suc k) x l h = go (x % 2) refl (λ e. first_is k (x / 2) (omega arith)
     go : (d : ℕ) → x % 2 ≡ d → (x % 2 ≡ 0 → First (x / 2) (count_trailing_zeros k (x / 2))) → First x (under d (count_trailing_zeros k (x / 2)))
     go zero e f = even x _ l e (f e)
     go (suc d) e f = odd x (omega arith)
+
+-- as a number of the word
+pub first_below : (k x : ℕ) → 0 < x → x < 2 ^ k → First x (count_trailing_zeros k x) × (count_trailing_zeros k x < k)
+first_below k x l h = let f = first_is k x l h in (f, ∈_below h f.is_in)

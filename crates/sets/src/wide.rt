@@ -1,38 +1,27 @@
-// A 64-bit word as a set of the numbers 0 to 63: numbers of rules, or lanes.
-ghost use Rattle.std.specs.Prelude.{◌≡◌, cond, ◌<◌};
-ghost use Rattle.sets.specs.Sets.{◌∈?◌, ◌∪◌, ◌∖◌, ∅, single};
-ghost use Rattle.sets.specs.Least.{First};
+// 64-bit words: sets of rules by number, or of lanes.
+use super::set::Set;
 
-// Is a in the set x?
-pub fn member(a: u64, x: u64) -> bool
-    requires { a < 64 }
-    ensures { result ≡ (a ∈? x) }
-{
-    (x >> a) % 2 == 1
-}
+impl Set for u64 {
+    ghost number = { λ x. x };
 
-// x, and a too where `yes`.
-pub fn include(x: u64, a: u64, yes: bool) -> u64
-    requires { a < 64 }
-    ensures { result ≡ cond yes (single a) ∅ ∪ x }
-{
-    if yes {
-        return (1 << a) | x;
+    ghost width = { 64 };
+
+    fn has(self, a: u64) -> bool {
+        (self >> a) % 2 == 1
     }
-    x
-}
 
-// The members of x that are not in y.
-pub fn minus(x: u64, y: u64) -> u64
-    ensures { result ≡ x ∖ y }
-{
-    x - (x & y)
-}
+    fn include(self, a: u64, yes: bool) -> u64 {
+        if yes {
+            return (1 << a) | self;
+        }
+        self
+    }
 
-// The least member of x.
-pub fn first(x: u64) -> usize
-    requires { 0 < x }
-    ensures { First x result × (result < 64) }
-{
-    u64::trailing_zeros(x) as usize
+    fn minus(self, other: u64) -> u64 {
+        self - (self & other)
+    }
+
+    fn first(self) -> usize {
+        u64::trailing_zeros(self) as usize
+    }
 }

@@ -8,7 +8,7 @@ ghost use Rattle.semantics.specs.Theorems.Stable.{Model};
 ghost use Rattle.stable.specs.Applied.{applied};
 ghost use Rattle.stable.specs.Nogoods.{Excludes, has_in, lacks_in, kept, nogood_words, Nogoods, Blocks, SatisfiedIn};
 
-use sets::{has_and_lacks, highest, meets, minus};
+use sets::{Set, has_and_lacks, highest, meets};
 
 // No set that has every atom of `has` and none of `lacks` is a stable set that the masks allow.
 #[derive(Clone, Copy)]
@@ -35,7 +35,7 @@ pub fn by_masks(ins: u16, outs: u16, i: u16) -> Nogood
     requires { allowed ins outs i ≡ false }
     ensures { (p : List Rule) → Excludes ins outs p result.has result.lacks }
 {
-    let missing = minus(ins, i);
+    let missing = ins.minus(i);
     if missing != 0 {
         return Nogood {
             has: 0,
@@ -57,12 +57,12 @@ fn block(program: &[u16], j: usize, i: u16, s: u16, r: Nogood) -> Nogood
     let at = 4 * j;
     let head = program[at];
     let plain = program[at + 1];
-    let u = minus(i, s);
+    let u = i.minus(s);
     let inside = meets(plain, u);
     if !meets(head, u) | inside {
         return r;
     }
-    let missing = minus(plain | program[at + 3], i);
+    let missing = (plain | program[at + 3]).minus(i);
     if missing != 0 {
         return Nogood {
             has: r.has,
@@ -89,7 +89,7 @@ pub fn by_smaller(program: &[u16], rules: usize, i: u16, s: u16) -> Nogood
     ensures { (ins outs : ℕ) → Excludes ins outs (program_in program.now rules) result.has result.lacks }
 {
     let mut r = Nogood {
-        has: minus(i, s),
+        has: i.minus(s),
         lacks: 0,
     };
     let mut j = 0;

@@ -6,7 +6,7 @@ ghost use Rattle.stable.specs.Growth.{Grown, TwoHeads};
 ghost use Rattle.stable.specs.Smaller.{SmallerOr};
 
 use super::growth::{grown, supported};
-use sets::{highest, meets, minus, subset};
+use sets::{Set, highest, meets, subset};
 
 // Is rule j satisfied in i?
 fn positive_satisfied(positive: &[u16], j: usize, i: u16) -> bool
@@ -55,7 +55,7 @@ fn search(positive: &[u16], rules: usize, i: u16, l: u16) -> u16
     requires two_heads { TwoHeads (positive_program_in positive.now rules) i }
     ensures { SmallerOr (positive_program_in positive.now rules) i result }
 {
-    let beyond = minus(i, l);
+    let beyond = i.minus(l);
     let mut found = i;
     let mut last = rules;
     let mut t = beyond;
@@ -87,9 +87,9 @@ pub fn smaller_model(positive: &[u16], rules: usize, i: u16) -> u16
     requires { (2 * rules ≤ length positive.now) × (is_model (positive_program_in positive.now rules) i ≡ true) }
     ensures { SmallerOr (positive_program_in positive.now rules) i result }
 {
-    let unsupported = minus(i, supported(positive, rules, i));
+    let unsupported = i.minus(supported(positive, rules, i));
     if unsupported != 0 {
-        return minus(i, highest(unsupported));
+        return i.minus(highest(unsupported));
     }
     let l = grown(positive, rules, i);
     if l == i {

@@ -9,8 +9,7 @@ ghost use Rattle.table.specs.Tables.{Free};
 use guess::outline::Outline;
 use guess::reduct::reduct;
 use propagation::contradicted;
-use sets::power;
-use sets::wide::include;
+use sets::{Set, power};
 
 // Is the guess not contradicted? Its reduct is built in the program.
 fn is_free(words: &[u16], x: Outline, guess: u16, program: &mut [u16]) -> bool
@@ -29,13 +28,13 @@ fn free_word(words: &[u16], x: Outline, w: usize, program: &mut [u16]) -> u64
     ensures word { Word (Free x words.now) w result }
 {
     let end = power(x.negations as u16);
-    let mut lanes = 0;
+    let mut lanes = 0u64;
     let mut b = 0;
     while b < 64 {
         let guess = (64 * w + b) as u16;
         if guess < end {
             let free = is_free(words, x, guess, &mut program[..]);
-            lanes = include(lanes, b as u64, free);
+            lanes = lanes.include(b as u64, free);
         }
         b += 1;
     }

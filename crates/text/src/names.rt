@@ -7,7 +7,7 @@ ghost use Rattle.text.specs.Appended.{Appended};
 ghost use Rattle.text.specs.Names.{name_room, names_room, names_end, atoms_in, name_field, member_fields};
 
 use super::bytes::put;
-use sets::member;
+use sets::Set;
 
 // The byte at a place; 0 past the end.
 fn byte(s: &[u8], place: usize) -> usize
@@ -55,7 +55,7 @@ fn put_member(s: &[u8], a: u16, set: u16, place: usize, at: usize, out: &mut [u8
     ensures appended { Appended at (cond (a ∈? set) (name_field s.now place) []) out.old out.new result }
     ensures upper_bound { result ≤ at + name_room }
 {
-    if member(a, set) {
+    if set.has(a) {
         return put_name(s, place, at, out);
     }
     at

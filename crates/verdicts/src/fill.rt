@@ -17,8 +17,7 @@ use guess::negations::found;
 use guess::outline::Outline;
 use lanes::cube::patterns;
 use search::note_rules;
-use sets::wide::member;
-use sets::{full, power};
+use sets::{Set, full, power};
 
 // The entries of the first guesses before any set: every atom known, none possible, no set.
 fn clear(table: &mut [u16], guesses: usize, atoms: usize)
@@ -84,7 +83,7 @@ pub fn fill(words: &[u16], x: Outline, stable: &mut [u64], active: &mut [u64], t
         if i % 64 == 0 {
             sets = candidates(&low, words, x, &digests[..], i / 64);
         }
-        if member((i % 64) as u64, sets) {
+        if sets.has((i % 64) as u64) {
             note_set(
                 &low,
                 words,

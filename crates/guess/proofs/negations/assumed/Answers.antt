@@ -18,11 +18,11 @@ pub loop-a-init : goal.loop-a-init
 unfolding set_of
 loop-a-init c = (at_first _, refl, refl)
 
-pub member-k-requires : goal.member-k-requires
-member-k-requires c = omega (arith, c.loop-a-test.true, c.requires.0)
+pub has-k-requires : goal.has-k-requires
+has-k-requires c = omega (arith, c.loop-a-test.true, c.requires.0)
 
-pub member-k_in-requires : goal.member-k_in-requires
-member-k_in-requires c =
+pub has-k_in-requires : goal.has-k_in-requires
+has-k_in-requires c =
     let l = c.loop-a in
     let h = low _ c.requires l.invariant.0 c.loop-a-test.true in
     omega (arith, h)
@@ -34,16 +34,16 @@ pub overflow_add-j : goal.overflow_add-j
 overflow_add-j c =
     let l = c.loop-a in
     let h = low _ c.requires l.invariant.0 c.loop-a-test.true in
-    omega (arith, h, at_most_one c.member-k.result c.one_if-j.ensures)
+    omega (arith, h, at_most_one c.has-k.result c.one_if-j.ensures)
 
-pub member-m-requires : goal.member-m-requires
-member-m-requires c = omega (arith, c.loop-a-test.true, c.requires.0)
+pub has-m-requires : goal.has-m-requires
+has-m-requires c = omega (arith, c.loop-a-test.true, c.requires.0)
 
-pub member-m_in-requires : goal.member-m_in-requires
-member-m_in-requires c =
+pub has-m_in-requires : goal.has-m_in-requires
+has-m_in-requires c =
     let l = c.loop-a in
     let h = low _ c.requires l.invariant.0 c.loop-a-test.true in
-    omega (arith, h, at_most_one c.member-k.result c.one_if-j.ensures)
+    omega (arith, h, at_most_one c.has-k.result c.one_if-j.ensures)
 
 pub include-maybe-requires : goal.include-maybe-requires
 include-maybe-requires c = omega (arith, c.loop-a-test.true, c.requires.0)
@@ -52,8 +52,8 @@ pub overflow_add-j-in-loop-a : goal.overflow_add-j-in-loop-a
 overflow_add-j-in-loop-a c =
     let l = c.loop-a in
     let h = low _ c.requires l.invariant.0 c.loop-a-test.true in
-    let k = at_most_one c.member-k.result c.one_if-j.ensures in
-    omega (arith, h, k, at_most_one c.member-m.result c.one_if-j-in-loop-a.ensures)
+    let k = at_most_one c.has-k.result c.one_if-j.ensures in
+    omega (arith, h, k, at_most_one c.has-m.result c.one_if-j-in-loop-a.ensures)
 
 pub overflow_add-a : goal.overflow_add-a
 overflow_add-a c = omega (arith, c.loop-a-test.true, c.requires.0)
@@ -63,12 +63,12 @@ loop-a-preserved c =
     let l = c.loop-a in
     let h = c.loop-a-test.true in
     let a = c.args in
-    let k = c.member-k.ensures in
+    let k = c.has-k.ensures in
     let n = c.one_if-j.ensures in
-    let m = c.member-m.ensures in
+    let m = c.has-m.ensures in
     let n' = c.one_if-j-in-loop-a.ensures in
-    let i = c.member-k_in.ensures in
-    let i' = c.member-m_in.ensures in (
+    let i = c.has-k_in.ensures in
+    let i' = c.has-m_in.ensures in (
       at_next a.x l.invariant.0 h k n m n',
       unknown_next a.x l.invariant.0 h k n m n' a.guess i i' l.invariant.1 c.include-unknown.ensures,
       maybe_next a.x l.invariant.0 h k n m n' a.guess i i' l.invariant.2 c.include-maybe.ensures,

@@ -10,11 +10,11 @@ pub loop-a-init : goal.loop-a-init
 unfolding set_of
 loop-a-init c = (at_first _, refl)
 
-pub member-k-requires : goal.member-k-requires
-member-k-requires c = omega (arith, c.loop-a-test.true, c.requires.0)
+pub has-k-requires : goal.has-k-requires
+has-k-requires c = omega (arith, c.loop-a-test.true, c.requires.0)
 
-pub member-unknown-requires : goal.member-unknown-requires
-member-unknown-requires c = omega (arith, c.loop-a-test.true, c.requires.0)
+pub has-unknown-requires : goal.has-unknown-requires
+has-unknown-requires c = omega (arith, c.loop-a-test.true, c.requires.0)
 
 pub include-guess-requires : goal.include-guess-requires
 include-guess-requires c =
@@ -26,26 +26,26 @@ pub overflow_add-j : goal.overflow_add-j
 overflow_add-j c =
     let l = c.loop-a in
     let h = low _ c.requires l.invariant.0 c.loop-a-test.true in
-    omega (arith, h, at_most_one c.member-k.result c.one_if-j.ensures)
+    omega (arith, h, at_most_one c.has-k.result c.one_if-j.ensures)
 
-pub member-m-requires : goal.member-m-requires
-member-m-requires c = omega (arith, c.loop-a-test.true, c.requires.0)
+pub has-m-requires : goal.has-m-requires
+has-m-requires c = omega (arith, c.loop-a-test.true, c.requires.0)
 
-pub member-may-requires : goal.member-may-requires
-member-may-requires c = omega (arith, c.loop-a-test.true, c.requires.0)
+pub has-may-requires : goal.has-may-requires
+has-may-requires c = omega (arith, c.loop-a-test.true, c.requires.0)
 
 pub include-guess-requires-in-loop-a : goal.include-guess-requires-in-loop-a
 include-guess-requires-in-loop-a c =
     let l = c.loop-a in
     let h = low _ c.requires l.invariant.0 c.loop-a-test.true in
-    omega (arith, h, at_most_one c.member-k.result c.one_if-j.ensures)
+    omega (arith, h, at_most_one c.has-k.result c.one_if-j.ensures)
 
 pub overflow_add-j-in-loop-a : goal.overflow_add-j-in-loop-a
 overflow_add-j-in-loop-a c =
     let l = c.loop-a in
     let h = low _ c.requires l.invariant.0 c.loop-a-test.true in
-    let k = at_most_one c.member-k.result c.one_if-j.ensures in
-    omega (arith, h, k, at_most_one c.member-m.result c.one_if-j-in-loop-a.ensures)
+    let k = at_most_one c.has-k.result c.one_if-j.ensures in
+    omega (arith, h, k, at_most_one c.has-m.result c.one_if-j-in-loop-a.ensures)
 
 pub overflow_add-a : goal.overflow_add-a
 overflow_add-a c = omega (arith, c.loop-a-test.true, c.requires.0)
@@ -55,12 +55,12 @@ loop-a-preserved c =
     let l = c.loop-a in
     let h = c.loop-a-test.true in
     let a = c.args in
-    let k = c.member-k.ensures in
+    let k = c.has-k.ensures in
     let n = c.one_if-j.ensures in
-    let m = c.member-m.ensures in
+    let m = c.has-m.ensures in
     let n' = c.one_if-j-in-loop-a.ensures in
-    let i = ap not c.member-unknown.ensures in
-    let i' = c.member-may.ensures in
+    let i = ap not c.has-unknown.ensures in
+    let i' = c.has-may.ensures in
     let g = c.include-guess.ensures in (
       at_next a.x l.invariant.0 h k n m n',
       found_next a.x l.invariant.0 h k n m n' a.known a.possible i i' l.invariant.1 g c.include-guess-in-loop-a.ensures,

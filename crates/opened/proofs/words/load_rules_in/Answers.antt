@@ -29,8 +29,8 @@ returns-in_default c =
 
 -- the rule that was fetched
 
-pub member-requires : goal.member-requires
-member-requires c =
+pub has-requires : goal.has-requires
+has-requires c =
     let a = c.args in
     omega (arith, (fetched_place c.args.s.now c.args.rules_at c.args.rules c.requires.0 c.loop-place.number c.in-Rule.ensures refl).0, few_rules a.s.now a.rules_at a.rules c.requires.0)
 
@@ -55,5 +55,5 @@ loop-place-preserved c =
       w.ensures.out_len_unchanged ∙ l.invariant.0,
       omega (arith, w.ensures.upper_bound, l.invariant.1),
       omega arith,
-      one_number a.s.now a.rules_at a.set l.out l.n l.number l.invariant.3 w.new.out w.result c.member.ensures there w.ensures.result_after,
+      one_number a.s.now a.rules_at a.set l.out l.n l.number l.invariant.3 w.new.out w.result c.has.ensures there w.ensures.result_after,
     )

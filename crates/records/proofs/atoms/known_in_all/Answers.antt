@@ -12,17 +12,17 @@ use Rattle.records.proofs.atoms.known_in_all.Goals as goal
 pub loop-j-init : goal.loop-j-init
 loop-j-init c = (omega arith, below_none _)
 
-pub returns-then-not-member : goal.returns-then-not-member
-returns-then-not-member c =
+pub returns-then-not-has : goal.returns-then-not-has
+returns-then-not-has c =
     let a = c.args in
     let l = c.loop-j in
     sym (is_false (dec_views (λ v. a.atom ∈? v.known) a.records.now a.n)
-    (λ h. true≢false (sym (h l.j c.loop-j-test.true) ∙ sym c.member.ensures ∙ not-true c.member.result c.if-not-member.true-raw)))
+    (λ h. true≢false (sym (h l.j c.loop-j-test.true) ∙ sym c.has.ensures ∙ not-true c.has.result c.if-not-has.true-raw)))
 
 pub loop-j-preserved : goal.loop-j-preserved
 loop-j-preserved c =
     let l = c.loop-j in
-    (omega arith, below_more _ _ l.invariant.1 (sym c.member.ensures ∙ not-false c.member.result c.if-not-member.false-raw))
+    (omega arith, below_more _ _ l.invariant.1 (sym c.has.ensures ∙ not-false c.has.result c.if-not-has.false-raw))
 
 pub returns : goal.returns
 returns c =

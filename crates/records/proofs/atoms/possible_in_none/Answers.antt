@@ -11,17 +11,17 @@ use Rattle.records.proofs.atoms.possible_in_none.Goals as goal
 pub loop-j-init : goal.loop-j-init
 loop-j-init c = (omega arith, below_none _)
 
-pub returns-then-member : goal.returns-then-member
-returns-then-member c =
+pub returns-then-has : goal.returns-then-has
+returns-then-has c =
     let a = c.args in
     let l = c.loop-j in
     sym (is_false (dec_views (λ v. not (a.atom ∈? v.possible)) a.records.now a.n)
-    (λ h. true≢false (sym (h l.j c.loop-j-test.true) ∙ ap not (sym c.member.ensures ∙ c.if-member.true))))
+    (λ h. true≢false (sym (h l.j c.loop-j-test.true) ∙ ap not (sym c.has.ensures ∙ c.if-has.true))))
 
 pub loop-j-preserved : goal.loop-j-preserved
 loop-j-preserved c =
     let l = c.loop-j in
-    (omega arith, below_more _ _ l.invariant.1 (ap not (sym c.member.ensures ∙ c.if-member.false)))
+    (omega arith, below_more _ _ l.invariant.1 (ap not (sym c.has.ensures ∙ c.if-has.false)))
 
 pub returns : goal.returns
 returns c =

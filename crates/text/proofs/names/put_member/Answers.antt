@@ -7,10 +7,10 @@ use Rattle.text.specs.Names.{name_field}
 use Rattle.text.proofs.Append.{nothing, same_text}
 use Rattle.text.proofs.names.put_member.Goals as goal
 
-pub returns-then-member : goal.returns-then-member
-returns-then-member c =
+pub returns-then-has : goal.returns-then-has
+returns-then-has c =
     let a = c.args in
-    let in-set = sym c.member.ensures ∙ c.if-member.true in
+    let in-set = sym c.has.ensures ∙ c.if-has.true in
     record {
       appended = same_text (sym (ap (λ z. cond z (name_field a.s.now a.place) []) in-set)) c.put_name.ensures.appended;
       upper_bound = c.put_name.ensures.upper_bound;
@@ -19,7 +19,7 @@ returns-then-member c =
 pub returns : goal.returns
 returns c =
     let a = c.args in
-    let not-in-set = sym c.member.ensures ∙ c.if-member.false in
+    let not-in-set = sym c.has.ensures ∙ c.if-has.false in
     record {
       appended = same_text (sym (ap (λ z. cond z (name_field a.s.now a.place) []) not-in-set)) (nothing a.at a.out.now);
       upper_bound = omega arith;

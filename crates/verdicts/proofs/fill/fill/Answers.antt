@@ -7,7 +7,7 @@ use Rattle.guess.specs.Numbered.{few_sets}
 use Rattle.candidates.specs.Candidates.{Candidates}
 use Rattle.verdicts.proofs.Filling.{after_none, room_left, sets_stay, set_tried, set_passed, all_tried}
 use Rattle.verdicts.proofs.fill.fill.Goals as goal
-use Rattle.verdicts.proofs.fill.fill.Goals.{then-i-eq0, else-i-eq0, then-member, else-member}
+use Rattle.verdicts.proofs.fill.fill.Goals.{then-i-eq0, else-i-eq0, then-has, else-has}
 
 pub digest_all-requires : goal.digest_all-requires
 digest_all-requires c = (c.requires.0, omega (arith, c.requires.0.few_rules))
@@ -57,29 +57,29 @@ loop-i-preserved c =
     let o = c.requires.0 in
     let end = c.power-end.ensures in
     let here : l.i < 2 ^ a.x.atoms = omega (arith, l.invariant.0, c.loop-i-test.true, end) in
-    let answer = c.member.ensures in
+    let answer = c.has.ensures in
     let sets : Candidates a.x a.words.now (l.i / 64) c.if-i-eq0.sets = elim c.if-i-eq0.branch [
       | then-i-eq0 w ↦ rw w.sets-is w.candidates-sets.ensures
       | else-i-eq0 w ↦ rw w.sets-is (l.invariant.6 (omega (arith, w.if-i-eq0.false)))
     ] in
-    elim c.if-member.branch [
-      | then-member w ↦
+    elim c.if-has.branch [
+      | then-has w ↦
           let n = w.note_set.ensures in (
             omega (arith, here, end),
             ap length w.room-is ∙ n.room_len_unchanged.0 ∙ l.invariant.1,
             ap length w.on-is ∙ n.room_len_unchanged.1 ∙ l.invariant.2,
             ap length w.stable-is ∙ n.room_len_unchanged.2 ∙ l.invariant.3,
             ap length w.table-is ∙ n.tried.entries.long ∙ l.invariant.4,
-            rw (w.active-is, w.table-is) (set_tried a.x a.words.now a.active.now l.invariant.5 o here sets (sym answer ∙ w.if-member.true) n.tried),
+            rw (w.active-is, w.table-is) (set_tried a.x a.words.now a.active.now l.invariant.5 o here sets (sym answer ∙ w.if-has.true) n.tried),
             sets_stay l.i sets,
           )
-      | else-member w ↦ (
+      | else-has w ↦ (
         omega (arith, here, end),
         ap length w.room-is ∙ l.invariant.1,
         ap length w.on-is ∙ l.invariant.2,
         ap length w.stable-is ∙ l.invariant.3,
         ap length w.table-is ∙ l.invariant.4,
-        rw (w.active-is, w.table-is) (set_passed a.x a.words.now a.active.now l.invariant.5 o here sets (sym answer ∙ w.if-member.false)),
+        rw (w.active-is, w.table-is) (set_passed a.x a.words.now a.active.now l.invariant.5 o here sets (sym answer ∙ w.if-has.false)),
         sets_stay l.i sets,
       )
     ]

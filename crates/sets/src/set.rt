@@ -1,0 +1,30 @@
+// A word as the set of the numbers of its bits that are set.
+ghost use Rattle.std.specs.Prelude.{◌≡◌, ℕ, cond, ◌<◌};
+ghost use Rattle.sets.specs.Sets.{◌∈?◌, ◌∪◌, ◌∖◌, ∅, single};
+ghost use Rattle.sets.specs.Least.{First};
+
+pub trait Set: Copy {
+    // The word as a number, and how many bits it has.
+    ghost number: { Self → ℕ };
+
+    ghost width: { ℕ };
+
+    // Is a in the set?
+    fn has(self, a: Self) -> bool
+        requires { number a < width }
+        ensures { result ≡ (number a ∈? number self) };
+
+    // The set, and a too where `yes`.
+    fn include(self, a: Self, yes: bool) -> Self
+        requires { number a < width }
+        ensures { number result ≡ cond yes (single (number a)) ∅ ∪ number self };
+
+    // Its members that are not in the other.
+    fn minus(self, other: Self) -> Self
+        ensures { number result ≡ number self ∖ number other };
+
+    // Its least member.
+    fn first(self) -> usize
+        requires { 0 < number self }
+        ensures { First (number self) result × (result < width) };
+}
