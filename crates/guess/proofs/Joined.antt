@@ -12,18 +12,17 @@ use borrow.Author.Tests.{leb-true, leb-false}
 use Rattle.sets.specs.Decides.{unequal, Decides, decided, dec_eq, is_true, is_false}
 use Rattle.sets.specs.Sets.{◌meets?◌, ◌∪◌, ◌∖◌, ∅}
 use Rattle.semantics.specs.Words.{word_of, rule_in}
-use Rattle.guess.specs.declared.reduct.Acted.{Acted}
-use Rattle.guess.specs.declared.reduct.Acted.TheVariants.{Join, Delete}
+use Rattle.std.specs.Prelude.{Option, Some, None}
 use Rattle.guess.specs.Acted.{acted_on, deleted_by, reduced_by, Cleared}
 use Rattle.guess.proofs.Words.{written, others_stay}
 
 module _ (u p : ℕ) where
   -- ---- what an answer says
   -- what holds of each answer for a mask
-  each-mask : (P : Acted → Type 0) (i mask : ℕ) → i < 8 → (i < 4 → P (Join i mask))
-      → (i ≡ 4 → (b : Bool) → (mask meets? u) ≡ b → P (cond b Delete (Join 1 mask)))
-      → P (Join 2 (mask ∖ u)) → P (Join 3 (mask ∖ p))
-      → (i ≡ 7 → (b : Bool) → (mask meets? p) ≡ b → P (cond b Delete (Join 2 mask))) → P (acted_on u p i mask)
+  each-mask : (P : Option (ℕ × ℕ) → Type 0) (i mask : ℕ) → i < 8 → (i < 4 → P (Some (i, mask)))
+      → (i ≡ 4 → (b : Bool) → (mask meets? u) ≡ b → P (cond b None (Some (1, mask))))
+      → P (Some (2, mask ∖ u)) → P (Some (3, mask ∖ p))
+      → (i ≡ 7 → (b : Bool) → (mask meets? p) ≡ b → P (cond b None (Some (2, mask)))) → P (acted_on u p i mask)
   unfolding acted_on
   each-mask P i mask h low K not_k M not_m =
       go (leb i 3) (eqb i 4) (eqb i 5) (eqb i 6) (leb-true i 3) (leb-false i 3) (dec_eq i 4) (dec_eq i 5) (dec_eq i 6)
@@ -32,43 +31,33 @@ module _ (u p : ℕ) where
       last l a b c = omega arith
 
       go : (few four five six : Bool) → (few ≡ true → i ≤ 3) → (few ≡ false → 3 < i) → Decides (i ≡ 4) four → Decides (i ≡ 5) five → Decides (i ≡ 6) six
-          → P (cond few (Join i mask) (cond four (cond (mask meets? u) Delete (Join 1 mask))
-          (cond five (Join 2 (mask ∖ u)) (cond six (Join 3 (mask ∖ p)) (cond (mask meets? p) Delete (Join 2 mask))))))
+          → P (cond few (Some (i, mask)) (cond four (cond (mask meets? u) None (Some (1, mask)))
+          (cond five (Some (2, mask ∖ u)) (cond six (Some (3, mask ∖ p)) (cond (mask meets? p) None (Some (2, mask)))))))
       go true four five six l f d₄ d₅ d₆ = low (let e = l refl in omega arith)
       go false true five six l f d₄ d₅ d₆ = K (d₄.yes refl) (mask meets? u) refl
       go false false true six l f d₄ d₅ d₆ = not_k
       go false false false true l f d₄ d₅ d₆ = M
       go false false false false l f d₄ d₅ d₆ = not_m (last (f refl) (d₄.no refl) (d₅.no refl) (d₆.no refl)) (mask meets? p) refl
 
-  joins : (a m : ℕ) {to w : ℕ} → a < 4 → Join a m ≡ Join to w → to < 4
-  joins a m {to} l z = let e : a ≡ to = cc in omega arith
+  abbrev join : (to mask : ℕ) → Option (ℕ × ℕ)
+  join to mask = Some (to, mask)
 
   -- a literal that joins holds
-  holds : (b : Bool) (a m : ℕ) {to w : ℕ} → cond b Delete (Join a m) ≡ Join to w → (b ≡ false) × (a < 4 → to < 4)
+  holds : (b : Bool) (a m : ℕ) {to w : ℕ} → cond b None (join a m) ≡ Some (to, w) → b ≡ false
   holds true a m z = unequal cc
-  holds false a m z = (refl, λ l. joins a m l z)
+  holds false a m z = refl
 
-  fails : (b : Bool) (a m : ℕ) → cond b Delete (Join a m) ≡ Delete → b ≡ true
+  fails : (b : Bool) (a m : ℕ) → cond b None (join a m) ≡ None → b ≡ true
   fails true a m z = refl
   fails false a m z = unequal cc
 
-  stays : (a m : ℕ) → Join a m ≡ Delete → ⊥
+  stays : (a m : ℕ) → join a m ≡ None → ⊥
   stays a m z = unequal cc
 
-  -- one of four words is joined
-  pub joins_below : (i mask : ℕ) {to w : ℕ} → i < 8 → acted_on u p i mask ≡ Join to w → to < 4
-  joins_below i mask {to} {w} h =
-      each-mask (λ x. x ≡ Join to w → to < 4) i mask h
-      (λ l. joins i mask l)
-      (λ _ b _ z. (holds b 1 mask z).1 (omega arith))
-      (joins 2 (mask ∖ u) (omega arith))
-      (joins 3 (mask ∖ p) (omega arith))
-      (λ _ b _ z. (holds b 2 mask z).1 (omega arith))
-
   -- a rule is deleted at mask 4 or at mask 7
-  deletes : (i mask : ℕ) → i < 8 → acted_on u p i mask ≡ Delete → ((i ≡ 4) × (mask meets? u) ≡ true) ⊎ ((i ≡ 7) × (mask meets? p) ≡ true)
+  deletes : (i mask : ℕ) → i < 8 → acted_on u p i mask ≡ None → ((i ≡ 4) × (mask meets? u) ≡ true) ⊎ ((i ≡ 7) × (mask meets? p) ≡ true)
   deletes i mask h =
-      each-mask (λ x. x ≡ Delete → ((i ≡ 4) × (mask meets? u) ≡ true) ⊎ ((i ≡ 7) × (mask meets? p) ≡ true)) i mask h
+      each-mask (λ x. x ≡ None → ((i ≡ 4) × (mask meets? u) ≡ true) ⊎ ((i ≡ 7) × (mask meets? p) ≡ true)) i mask h
       (λ _ z. absurd (stays i mask z))
       (λ e b q z. inl (e, q ∙ fails b 1 mask z))
       (λ z. absurd (stays 2 (mask ∖ u) z))
@@ -76,13 +65,13 @@ module _ (u p : ℕ) where
       (λ e b q z. inr (e, q ∙ fails b 2 mask z))
 
   -- at those masks
-  k-holds : (mask : ℕ) {to w : ℕ} → acted_on u p 4 mask ≡ Join to w → (mask meets? u) ≡ false
+  k-holds : (mask : ℕ) {to w : ℕ} → acted_on u p 4 mask ≡ Some (to, w) → (mask meets? u) ≡ false
   unfolding acted_on
-  k-holds mask e = (holds (mask meets? u) 1 mask e).0
+  k-holds mask e = holds (mask meets? u) 1 mask e
 
-  not_m_holds : (mask : ℕ) {to w : ℕ} → acted_on u p 7 mask ≡ Join to w → (mask meets? p) ≡ false
+  not_m_holds : (mask : ℕ) {to w : ℕ} → acted_on u p 7 mask ≡ Some (to, w) → (mask meets? p) ≡ false
   unfolding acted_on
-  not_m_holds mask e = (holds (mask meets? p) 2 mask e).0
+  not_m_holds mask e = holds (mask meets? p) 2 mask e
 
   -- ---- the four words after i masks
   module _ (masks : List ℕ) where
@@ -90,21 +79,21 @@ module _ (u p : ℕ) where
     mask i = get_or masks i 0
 
     -- word t after one mask more
-    abbrev brings : Acted → (t word : ℕ) → ℕ
-    brings (Join to w) t word = cond (eqb t to) (word ∪ w) word
-    brings Delete t word = word
+    abbrev brings : Option (ℕ × ℕ) → (t word : ℕ) → ℕ
+    brings (Some (to, w)) t word = cond (eqb t to) (word ∪ w) word
+    brings None t word = word
 
-    brought : (t w word : ℕ) → brings (Join t w) t word ≡ word ∪ w
+    brought : (t w word : ℕ) → brings (Some (t, w)) t word ≡ word ∪ w
     brought t w word = ap (λ b. cond b (word ∪ w) word) (is_true (dec_eq t t) refl)
 
-    not_brought : (to t w word : ℕ) → (t ≡ to → ⊥) → brings (Join to w) t word ≡ word
+    not_brought : (to t w word : ℕ) → (t ≡ to → ⊥) → brings (Some (to, w)) t word ≡ word
     not_brought to t w word f = ap (λ b. cond b (word ∪ w) word) (is_false (dec_eq t to) f)
 
     unfoldable pub joined : (i t : ℕ) → ℕ
     joined zero t = ∅
     joined (suc i) t = brings (acted_on u p i (mask i)) t (joined i t)
 
-    joined-more : (i t : ℕ) {x : Acted} → acted_on u p i (mask i) ≡ x → joined (suc i) t ≡ brings x t (joined i t)
+    joined-more : (i t : ℕ) {x : Option (ℕ × ℕ)} → acted_on u p i (mask i) ≡ x → joined (suc i) t ≡ brings x t (joined i t)
     unfolding joined
     joined-more i t e = ap (λ x. brings x t (joined i t)) e
 
@@ -118,10 +107,9 @@ module _ (u p : ℕ) where
     unfolding joined
     none-joined words n f = record { few = omega arith; stands = f; all_k = λ h. absurd (omega arith); all_not_m = λ h. absurd (omega arith) }
 
-    pub one-joined : (words : List ℕ) (n i : ℕ) {to w : ℕ} → Joined words n i → i < 8 → 4 * n + 4 ≤ length words → acted_on u p i (mask i) ≡ Join to w
+    pub one-joined : (words : List ℕ) (n i : ℕ) {to w : ℕ} → Joined words n i → i < 8 → 4 * n + 4 ≤ length words → to < 4 → acted_on u p i (mask i) ≡ Some (to, w)
         → Joined (set words (4 * n + to) (word_of words n to ∪ w)) n (i + 1)
-    one-joined words n i {to} {w} j h l e =
-        let below = joins_below i (mask i) h e in
+    one-joined words n i {to} {w} j h l below e =
         let there : 4 * n + to < length words = omega arith in
         let new = word_of words n to ∪ w in
         rw add-one (record {
@@ -132,9 +120,9 @@ module _ (u p : ℕ) where
               (λ q. others_stay words n to new there t q ∙ j.stands t k ∙ sym (joined-more i t e ∙ not_brought to t w (joined i t) q))
               (decided (dec_eq t to));
           all_k = λ k. ⊎_elim
-              (λ q. k-holds (mask 4) (subst (λ z. acted_on u p z (mask z) ≡ Join to w) q e)) (λ q. j.all_k (omega arith)) (decided (dec_eq i 4));
+              (λ q. k-holds (mask 4) (subst (λ z. acted_on u p z (mask z) ≡ Some (to, w)) q e)) (λ q. j.all_k (omega arith)) (decided (dec_eq i 4));
           all_not_m = λ k. ⊎_elim
-              (λ q. not_m_holds (mask 7) (subst (λ z. acted_on u p z (mask z) ≡ Join to w) q e)) (λ q. j.all_not_m (omega arith)) (decided (dec_eq i 7));
+              (λ q. not_m_holds (mask 7) (subst (λ z. acted_on u p z (mask z) ≡ Some (to, w)) q e)) (λ q. j.all_not_m (omega arith)) (decided (dec_eq i 7));
         })
 
     -- ---- all eight
@@ -165,7 +153,7 @@ module _ (u p : ℕ) where
         (rw (k, m), cc (at 0 (omega arith) ∙ heads k m, at 1 (omega arith) ∙ plains k m, at 2 (omega arith) ∙ nots k m, at 3 (omega arith) ∙ not_nots k m))
 
     -- a mask at which the rule is deleted
-    pub some_deletes : (i : ℕ) → i < 8 → acted_on u p i (mask i) ≡ Delete → deleted_by u p masks ≡ true
+    pub some_deletes : (i : ℕ) → i < 8 → acted_on u p i (mask i) ≡ None → deleted_by u p masks ≡ true
     some_deletes i h e =
         ⊎_elim (λ q. rw (subst (λ z. (mask z meets? u) ≡ true) q.0 q.1))
         (λ q. or_right (mask 4 meets? u) (subst (λ z. (mask z meets? p) ≡ true) q.0 q.1)) (deletes i (mask i) h e)

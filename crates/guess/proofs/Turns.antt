@@ -5,6 +5,7 @@ use native.Mathlib.Omega.{arith}
 use mathlib.Core.Path.{◌≡◌, refl, sym, ap, ◌∙◌, subst}
 use mathlib.Core.Bool.{Bool, true, false, not, cond, ◌&&◌}
 use lib.ListN.{length}
+use Rattle.std.specs.Int.{from_bool}
 use Rattle.sets.specs.Lists.{up_to, flat}
 use Rattle.sets.specs.Counting.{one}
 use Rattle.sets.specs.Sets.{◌∈?◌, ◌∪◌, ∅, single, set_of}
@@ -16,9 +17,13 @@ use Rattle.guess.specs.declared.outline.Outline.{Outline}
 use Rattle.guess.specs.Negations.{negations_in, negations_by, Few}
 use Rattle.guess.proofs.Numbering.{next_number, assumed-k, assumed-m, found-k, found-m, number_fits}
 
-pub at_most_one : {o : ℕ} (b : Bool) → o ≡ one b → o ≤ 1
+pub at_most_one : {o : ℕ} (b : Bool) → o ≡ from_bool b → o ≤ 1
 at_most_one true e = omega arith
 at_most_one false e = omega arith
+
+as_one : (b : Bool) → from_bool b ≡ one b
+as_one true = refl
+as_one false = refl
 
 module _ (x : Outline) where
   -- how many negations stand on the atoms before a
@@ -50,13 +55,13 @@ module _ (x : Outline) where
   pub low : Few x → {a j : ℕ} → At a j → a < x.atoms → j ≤ most_negations
   low few {a} {j} at h = omega (arith, few.1, at.number, number_fits x.k_atoms x.m_atoms x.atoms a h)
 
-  module _ {a j : ℕ} (at : At a j) (h : a < x.atoms) {b b' : Bool} {o o' : ℕ} (k : b ≡ (a ∈? x.k_atoms)) (n : o ≡ one b)
-      (m : b' ≡ (a ∈? x.m_atoms)) (n' : o' ≡ one b') where
+  module _ {a j : ℕ} (at : At a j) (h : a < x.atoms) {b b' : Bool} {o o' : ℕ} (k : b ≡ (a ∈? x.k_atoms)) (n : o ≡ from_bool b)
+      (m : b' ≡ (a ∈? x.m_atoms)) (n' : o' ≡ from_bool b') where
     first : o ≡ one (a ∈? x.k_atoms)
-    first = n ∙ ap one k
+    first = n ∙ as_one b ∙ ap one k
 
     second : o' ≡ one (a ∈? x.m_atoms)
-    second = n' ∙ ap one m
+    second = n' ∙ as_one b' ∙ ap one m
 
     pub at_next : At (a + 1) (j + o + o')
     at_next = record { few = omega arith; number = subst (λ z. j + o + o' ≡ before z) (sym (add-one a)) whole }

@@ -1,20 +1,18 @@
 -- What a guess does to a rule, by sets of atoms: u has those whose "not K a" is in the guess, p those whose "M a" is. Assumes nothing.
-use Rattle.std.specs.Prelude.{ℕ, ◌<◌, ◌≡◌, Bool, cond, ◌||◌, List, leb, eqb, get_or}
+use Rattle.std.specs.Prelude.{ℕ, ◌<◌, ◌≡◌, Bool, cond, ◌||◌, Option, Some, None, List, leb, eqb, get_or}
 use Rattle.sets.specs.Sets.{◌meets?◌, ◌∪◌, ◌∖◌, ∅}
 use Rattle.semantics.specs.Definitions.Rules.{Rule}
 use Rattle.semantics.specs.Words.{word_of}
-use Rattle.guess.specs.declared.reduct.Acted.{Acted}
-use Rattle.guess.specs.declared.reduct.Acted.TheVariants.{Join, Delete}
 
 module _ (u p : ℕ) where
-  -- to mask i
-  unfoldable pub acted_on : (i mask : ℕ) → Acted
+  -- to mask i: its literals, or those that are not removed, join one of the four masks of the reduct; or the rule is deleted
+  unfoldable pub acted_on : (i mask : ℕ) → Option (ℕ × ℕ)
   acted_on i mask =
-      cond (leb i 3) (Join i mask)
-      (cond (eqb i 4) (cond (mask meets? u) Delete (Join 1 mask))
-      (cond (eqb i 5) (Join 2 (mask ∖ u))
-      (cond (eqb i 6) (Join 3 (mask ∖ p))
-      (cond (mask meets? p) Delete (Join 2 mask)))))
+      cond (leb i 3) (Some (i, mask))
+      (cond (eqb i 4) (cond (mask meets? u) None (Some (1, mask)))
+      (cond (eqb i 5) (Some (2, mask ∖ u))
+      (cond (eqb i 6) (Some (3, mask ∖ p))
+      (cond (mask meets? p) None (Some (2, mask))))))
 
   -- the rule of eight masks is deleted
   abbrev pub deleted_by : List ℕ → Bool

@@ -1,5 +1,5 @@
 // The epistemic negations by number: "not K a" before "M a", atom after atom.
-ghost use Rattle.std.specs.Prelude.{◌≡◌, cond};
+ghost use Rattle.std.specs.Prelude.{◌≡◌};
 ghost use Rattle.guess.specs.Negations.{Few, assumed_by, found_by};
 
 use super::outline::Outline;
@@ -12,16 +12,6 @@ pub struct Assumptions {
     pub maybe: u16,
 }
 
-// One where `yes`, otherwise none.
-fn one_if(yes: bool) -> u16
-    ensures { result ≡ cond yes 1 0 }
-{
-    if yes {
-        return 1;
-    }
-    0
-}
-
 // What a guess assumes, atom by atom.
 pub fn assumed(x: Outline, guess: u16) -> Assumptions
     requires { Few x }
@@ -32,17 +22,15 @@ pub fn assumed(x: Outline, guess: u16) -> Assumptions
     let mut maybe = 0u16;
     // the number of the next negation
     let mut j = 0;
-    let mut a = 0;
-    while a < n {
+    for a in 0..n {
         let k = x.k_atoms.has(a);
         let k_in = guess.has(j);
         unknown = unknown.include(a, k & k_in);
-        j = j + one_if(k);
+        j += u16::from(k);
         let m = x.m_atoms.has(a);
         let m_in = guess.has(j);
         maybe = maybe.include(a, m & m_in);
-        j = j + one_if(m);
-        a += 1;
+        j += u16::from(m);
     }
     Assumptions { unknown, maybe }
 }
@@ -55,17 +43,15 @@ pub fn found(x: Outline, known: u16, possible: u16) -> u16
     let n = x.atoms as u16;
     let mut guess = 0u16;
     let mut j = 0;
-    let mut a = 0;
-    while a < n {
+    for a in 0..n {
         let k = x.k_atoms.has(a);
         let unknown = !known.has(a);
         guess = guess.include(j, k & unknown);
-        j = j + one_if(k);
+        j += u16::from(k);
         let m = x.m_atoms.has(a);
         let may = possible.has(a);
         guess = guess.include(j, m & may);
-        j = j + one_if(m);
-        a += 1;
+        j += u16::from(m);
     }
     guess
 }

@@ -27,10 +27,8 @@ fn in_masks(words: &[u16], rules: usize, m: usize) -> u16
     ensures { result ≡ ⋃ (masks_of m (m + 1) (rules_in words.now rules)) }
 {
     let mut set = 0;
-    let mut i = 0;
-    while i < rules {
+    for i in 0..rules {
         set = set | words[8 * i + m] | words[8 * i + m + 1];
-        i += 1;
     }
     set
 }

@@ -1,5 +1,5 @@
 // The reduct of a guess, in words, four a rule.
-ghost use Rattle.std.specs.Prelude.{◌≡◌, true, not, ◌+◌, ◌*◌, ◌<◌, ◌≤◌, length, take};
+ghost use Rattle.std.specs.Prelude.{◌≡◌, true, not, ◌+◌, ◌*◌, ◌<◌, ◌≤◌, length, take, IfSome};
 ghost use Rattle.semantics.specs.Words.{program_room, masks_in, rule_in, program_in};
 ghost use Rattle.guess.specs.Programs.{unmasked_in, Outlines};
 ghost use Rattle.guess.specs.Acted.{acted_on, deleted_by, reduced_by, Cleared};
@@ -8,34 +8,29 @@ use super::negations::{Assumptions, assumed};
 use super::outline::Outline;
 use sets::{Set, meets};
 
-// What is done to a mask of a rule: its literals, or those that are not removed, join one of the four masks of the reduct; or the rule is
-// deleted.
-#[derive(Clone, Copy)]
-pub enum Acted {
-    Join(usize, u16),
-    Delete,
-}
-
-// Masks 0 to 3 stay; masks 4 to 7 are acted on by the guess.
-fn act(i: usize, mask: u16, by: Assumptions) -> Acted
+// What is done to mask i of a rule: its literals, or those that are not removed, join one of the four masks of the reduct; or the rule is
+// deleted. Masks 0 to 3 stay; masks 4 to 7 are acted on by the guess.
+#[tactic(auto, unfolding(crate::specs::Acted::acted_on))]
+fn act(i: usize, mask: u16, by: Assumptions) -> Option<(usize, u16)>
     requires { i < 8 }
-    ensures { result ≡ acted_on by.unknown by.maybe i mask }
+    ensures value { result ≡ acted_on by.unknown by.maybe i mask }
+    ensures one_of_four { IfSome result (λ joined. joined.0 < 4) }
 {
     match i {
-        0..=3 => Acted::Join(i, mask),
+        0..=3 => Some((i, mask)),
         4 => {
             if meets(mask, by.unknown) {
-                return Acted::Delete;
+                return None;
             }
-            Acted::Join(1, mask)
+            Some((1, mask))
         }
-        5 => Acted::Join(2, mask.minus(by.unknown)),
-        6 => Acted::Join(3, mask.minus(by.maybe)),
+        5 => Some((2, mask.minus(by.unknown))),
+        6 => Some((3, mask.minus(by.maybe))),
         _ => {
             if meets(mask, by.maybe) {
-                return Acted::Delete;
+                return None;
             }
-            Acted::Join(2, mask)
+            Some((2, mask))
         }
     }
 }
@@ -63,15 +58,11 @@ fn reduce(words: &[u16], j: usize, by: Assumptions, out: &mut [u16], n: usize) -
     ensures n_after { result ≡ true → rule_in out.new n ≡ reduced_by by.unknown by.maybe (masks_in words.now j) }
 {
     clear(&mut out[..], n);
-    let mut i = 0;
-    while i < 8 {
-        let acted = act(i, words[8 * j + i], by);
-        let Acted::Join(to, mask) = acted else {
+    for i in 0..8 {
+        let Some((to, mask)) = act(i, words[8 * j + i], by) else {
             return false;
         };
-        let at = 4 * n + to;
-        out[at] = out[at] | mask;
-        i += 1;
+        out[4 * n + to] |= mask;
     }
     true
 }
@@ -86,12 +77,10 @@ pub fn reduct(words: &[u16], x: Outline, guess: u16, out: &mut [u16]) -> usize
 {
     let by = assumed(x, guess);
     let mut n = 0;
-    let mut j = 0;
-    while j < x.rules {
+    for j in 0..x.rules {
         if reduce(words, j, by, &mut out[..], n) {
             n += 1;
         }
-        j += 1;
     }
     n
 }

@@ -34,7 +34,7 @@ pub overflow_add-j : goal.overflow_add-j
 overflow_add-j c =
     let l = c.loop-a in
     let h = low _ c.requires l.invariant.0 c.loop-a-test.true in
-    omega (arith, h, at_most_one c.has-k.result c.one_if-j.ensures)
+    omega (arith, h, at_most_one c.has-k.result c.from-j.ensures)
 
 pub has-m-requires : goal.has-m-requires
 has-m-requires c = omega (arith, c.loop-a-test.true, c.requires.0)
@@ -43,7 +43,7 @@ pub has-m_in-requires : goal.has-m_in-requires
 has-m_in-requires c =
     let l = c.loop-a in
     let h = low _ c.requires l.invariant.0 c.loop-a-test.true in
-    omega (arith, h, at_most_one c.has-k.result c.one_if-j.ensures)
+    omega (arith, h, at_most_one c.has-k.result c.from-j.ensures)
 
 pub include-maybe-requires : goal.include-maybe-requires
 include-maybe-requires c = omega (arith, c.loop-a-test.true, c.requires.0)
@@ -52,11 +52,8 @@ pub overflow_add-j-in-loop-a : goal.overflow_add-j-in-loop-a
 overflow_add-j-in-loop-a c =
     let l = c.loop-a in
     let h = low _ c.requires l.invariant.0 c.loop-a-test.true in
-    let k = at_most_one c.has-k.result c.one_if-j.ensures in
-    omega (arith, h, k, at_most_one c.has-m.result c.one_if-j-in-loop-a.ensures)
-
-pub overflow_add-a : goal.overflow_add-a
-overflow_add-a c = omega (arith, c.loop-a-test.true, c.requires.0)
+    let k = at_most_one c.has-k.result c.from-j.ensures in
+    omega (arith, h, k, at_most_one c.has-m.result c.from-j-in-loop-a.ensures)
 
 pub loop-a-preserved : goal.loop-a-preserved
 loop-a-preserved c =
@@ -64,9 +61,9 @@ loop-a-preserved c =
     let h = c.loop-a-test.true in
     let a = c.args in
     let k = c.has-k.ensures in
-    let n = c.one_if-j.ensures in
+    let n = c.from-j.ensures in
     let m = c.has-m.ensures in
-    let n' = c.one_if-j-in-loop-a.ensures in
+    let n' = c.from-j-in-loop-a.ensures in
     let i = c.has-k_in.ensures in
     let i' = c.has-m_in.ensures in (
       at_next a.x l.invariant.0 h k n m n',

@@ -8,7 +8,6 @@ use Rattle.sets.specs.Sets.{◌∪◌, ∅, ⋃}
 use Rattle.semantics.specs.Fields.{masks_of}
 use Rattle.semantics.specs.Words.{mask_in, masks_in, rules_in, rules-none, rules-more}
 use Rattle.semantics.specs.Theorems.Subjects.{masks-more}
-use borrow.Author.Rules.{rules}
 use Rattle.guess.proofs.outline.in_masks.Goals as goal
 
 one-rule : (words : List ℕ) (i m : ℕ) → m < 7
@@ -20,9 +19,6 @@ one-rule words i m h =
 pub loop-i-init : goal.loop-i-init
 unfolding flat
 loop-i-init c = (omega arith, rw (rules-none c.args.words.now))
-
-pub loop-i-smaller : goal.loop-i-smaller
-loop-i-smaller c = search rules
 
 -- one rule more
 

@@ -8,19 +8,14 @@ use native.Mathlib.Omega.{arith}
 use Prim.Native.Nat.{ℕ, ◌+◌, ◌*◌, ◌<◌}
 use Rattle.sets.specs.Lists.{get_or-up_to}
 use Rattle.semantics.specs.Words.{mask_in, masks_in}
-use Rattle.guess.specs.declared.reduct.Acted.{Acted}
-use Rattle.guess.specs.declared.reduct.Acted.TheVariants.{Join}
+use Rattle.std.specs.Prelude.{Option}
 use Rattle.guess.specs.Acted.{acted_on}
-use Rattle.guess.proofs.Joined.{joins_below, none-joined, one-joined, all_joined, some_deletes}
+use Rattle.guess.proofs.Joined.{none-joined, one-joined, all_joined, some_deletes}
 use Rattle.guess.proofs.reduct.reduce.Goals as goal
 
 -- what is done to mask i of the rule, by the answer of `act`
-acted_in : (words : List ℕ) (j u p i : ℕ) → i < 8 → {x : Acted} → x ≡ acted_on u p i (mask_in words j i) → acted_on u p i (get_or (masks_in words j) i 0) ≡ x
+acted_in : (words : List ℕ) (j u p i : ℕ) → i < 8 → {x : Option (ℕ × ℕ)} → x ≡ acted_on u p i (mask_in words j i) → acted_on u p i (get_or (masks_in words j) i 0) ≡ x
 acted_in words j u p i h answered = ap (acted_on u p i) (get_or-up_to (mask_in words j) 0 8 i h) ∙ sym answered
-
--- where the mask joins: one of the four words of rule n
-joins_at : (words : List ℕ) (j u p i to mask : ℕ) → i < 8 → Join to mask ≡ acted_on u p i (mask_in words j i) → to < 4
-joins_at words j u p i to mask h answered = joins_below u p i _ h (acted_in words j u p i h answered)
 
 pub loop-i-init : goal.loop-i-init
 loop-i-init c =
@@ -38,7 +33,7 @@ returns-in_default c =
     let cleared = c.clear in
     let rule = masks_in a.words.now a.j in
     let h = c.loop-i-test.true in
-    let e = acted_in a.words.now a.j a.by.unknown a.by.maybe l.i h c.in_default.ensures in
+    let e = acted_in a.words.now a.j a.by.unknown a.by.maybe l.i h c.in_default.ensures.value in
     let gone = some_deletes a.by.unknown a.by.maybe rule l.i h e in
     record {
       out_len_unchanged = l.invariant.0 ∙ cleared.ensures.out_len_unchanged;
@@ -47,45 +42,15 @@ returns-in_default c =
       n_after = λ z. absurd (true≢false (sym z));
     }
 
-pub overflow_mul-at : goal.overflow_mul-at
-overflow_mul-at c =
-    let a = c.args in
-    omega (arith, c.requires, c.loop-i.invariant, c.clear.ensures, joins_at a.words.now a.j a.by.unknown a.by.maybe c.loop-i.i _ _ c.loop-i-test.true c.in-Join.ensures)
-
-pub overflow_add-at : goal.overflow_add-at
-overflow_add-at c =
-    let a = c.args in
-    omega (arith, c.requires, c.loop-i.invariant, c.clear.ensures, joins_at a.words.now a.j a.by.unknown a.by.maybe c.loop-i.i _ _ c.loop-i-test.true c.in-Join.ensures)
-
-pub offset_bounds-out-at : goal.offset_bounds-out-at
-offset_bounds-out-at c =
-    let a = c.args in
-    omega (arith, c.requires, c.loop-i.invariant, c.clear.ensures, joins_at a.words.now a.j a.by.unknown a.by.maybe c.loop-i.i _ _ c.loop-i-test.true c.in-Join.ensures)
-
-pub bounds-out-at : goal.bounds-out-at
-bounds-out-at c =
-    let a = c.args in
-    omega (arith, c.requires, c.loop-i.invariant, c.clear.ensures, joins_at a.words.now a.j a.by.unknown a.by.maybe c.loop-i.i _ _ c.loop-i-test.true c.in-Join.ensures)
-
-pub offset_bounds-out-at-in-loop-i : goal.offset_bounds-out-at-in-loop-i
-offset_bounds-out-at-in-loop-i c =
-    let a = c.args in
-    omega (arith, c.requires, c.loop-i.invariant, c.clear.ensures, joins_at a.words.now a.j a.by.unknown a.by.maybe c.loop-i.i _ _ c.loop-i-test.true c.in-Join.ensures)
-
-pub bounds-out-at-in-loop-i : goal.bounds-out-at-in-loop-i
-bounds-out-at-in-loop-i c =
-    let a = c.args in
-    omega (arith, c.requires, c.loop-i.invariant, c.clear.ensures, joins_at a.words.now a.j a.by.unknown a.by.maybe c.loop-i.i _ _ c.loop-i-test.true c.in-Join.ensures)
-
 pub loop-i-preserved : goal.loop-i-preserved
 loop-i-preserved c =
     let a = c.args in
     let l = c.loop-i in
-    let to = c.in-Join.to in (
+    let to = c.in-Some.to in (
       simp length-set l.invariant.0,
       take-set-le (4 * a.n) l.out (4 * a.n + to) _ (omega arith) ∙ l.invariant.1,
       one-joined a.by.unknown a.by.maybe (masks_in a.words.now a.j) l.out a.n l.i l.invariant.2
-          c.loop-i-test.true (omega (arith, c.requires, l.invariant, c.clear.ensures)) (acted_in a.words.now a.j a.by.unknown a.by.maybe l.i c.loop-i-test.true c.in-Join.ensures),
+          c.loop-i-test.true (omega (arith, c.requires, l.invariant, c.clear.ensures)) c.in-Some.ensures.one_of_four (acted_in a.words.now a.j a.by.unknown a.by.maybe l.i c.loop-i-test.true c.in-Some.ensures.value),
     )
 
 pub shape_of-out : goal.shape_of-out

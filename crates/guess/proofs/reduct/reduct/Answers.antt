@@ -29,15 +29,6 @@ overflow_add-n c =
     let pre = c.requires in
     omega (arith, l.invariant.0, l.invariant.2.few, pre.0.few_rules)
 
-pub overflow_add-j : goal.overflow_add-j
-overflow_add-j c =
-    let l = c.loop-j in
-    let pre = c.requires in
-    omega (arith, l.invariant.0, pre.0.few_rules)
-
-pub loop-j-smaller : goal.loop-j-smaller
-loop-j-smaller c = omega (arith, c.loop-j-test.true)
-
 pub loop-j-preserved : goal.loop-j-preserved
 loop-j-preserved c =
     let a = c.args in
