@@ -9,10 +9,10 @@ ghost use Rattle.source.specs.Sources.{Outlined};
 ghost use Rattle.engine.specs.Sources.{Lists};
 
 use super::Listed;
+use answers::Tally;
 use guess::outline::Outline;
 use listing::walk;
 use order::guesses;
-use records::outcome::Tally;
 use records::write_records;
 use source::Source;
 

@@ -17,7 +17,7 @@ use Rattle.semantics.specs.Definitions.Order.{members_below}
 use Rattle.semantics.specs.Definitions.Listing.{View}
 use Rattle.semantics.specs.Walk.{Walked, start, outcome_by, views_by, advance, walk}
 use Rattle.semantics.specs.Theorems.Order.{Enumerates}
-use Rattle.records.specs.declared.outcome.Tally.{Tally as Counts}
+use Rattle.answers.specs.declared.tally.Tally.{Tally as Counts}
 use Rattle.listing.specs.Walks.{walked_in}
 use Rattle.records.specs.Records.{view_in, views_in, views_in_long, LargerFirst}
 use Rattle.listing.proofs.Along.{passed, passed_begin}

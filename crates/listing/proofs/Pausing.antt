@@ -12,7 +12,7 @@ use Rattle.semantics.specs.Definitions.Verdict.{verdict}
 use Rattle.semantics.specs.Walk.{Covered, Ruled, outcome_by, counted_by, advance}
 use Rattle.guess.specs.declared.outline.Outline.{Outline}
 use Rattle.guess.specs.Programs.{setting_in}
-use Rattle.records.specs.declared.outcome.Tally.{Tally}
+use Rattle.answers.specs.declared.tally.Tally.{Tally}
 use Rattle.listing.specs.declared.paused.Paused.{Paused}
 use Rattle.records.specs.Records.{views_in}
 use Rattle.records.specs.Outcomes.{tally_from}

@@ -21,7 +21,7 @@ use Rattle.semantics.specs.Theorems.Tests.{StandsAt}
 use Rattle.semantics.proofs.Theorems.Tests.{stands_end, stands_waiting}
 use Rattle.guess.specs.declared.outline.Outline.{Outline}
 use Rattle.guess.specs.Programs.{setting_in, Outlines}
-use Rattle.records.specs.declared.outcome.Tally.{Tally}
+use Rattle.answers.specs.declared.tally.Tally.{Tally}
 use Rattle.listing.specs.declared.paused.Paused.{Paused}
 use Rattle.records.specs.Records.{views_in, LargerFirst}
 use Rattle.records.specs.Outcomes.{tally_from}

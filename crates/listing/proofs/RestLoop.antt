@@ -5,7 +5,7 @@ use mathlib.Core.List.{List}
 use lib.ListN.{length}
 use Rattle.semantics.specs.Definitions.Setting.{Setting}
 use Rattle.semantics.specs.Walk.{walk}
-use Rattle.records.specs.declared.outcome.Tally.{Tally}
+use Rattle.answers.specs.declared.tally.Tally.{Tally}
 use Rattle.listing.specs.Walks.{walked_in}
 use Rattle.listing.proofs.Along.{passed}
 

@@ -10,7 +10,7 @@ use Rattle.sets.specs.Sets.{◌⊂?◌}
 use Rattle.semantics.specs.Definitions.Setting.{Setting}
 use Rattle.semantics.specs.Definitions.Listing.{Tally, View, words}
 use Rattle.semantics.specs.Walk.{Outcome, Covered, Ruled, Empty, Other, IsView, counted_by, views_by, outcome, advance}
-use Rattle.records.specs.declared.outcome.Tally.{Tally as Counts}
+use Rattle.answers.specs.declared.tally.Tally.{Tally as Counts}
 use Rattle.records.specs.Records.{views_in}
 use Rattle.semantics.specs.Theorems.Tally.{AtMost}
 use Rattle.records.specs.Outcomes.{tally_from, ExaminedAs}

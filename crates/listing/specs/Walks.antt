@@ -4,7 +4,7 @@ use Rattle.semantics.specs.Definitions.Setting.{Setting, k}
 use Rattle.semantics.specs.Definitions.Order.{members_below}
 use Rattle.semantics.specs.Definitions.Listing.{Tally, tally_of, View, views_along}
 use Rattle.semantics.specs.Walk.{Walked}
-use Rattle.records.specs.declared.outcome.Tally.{Tally as Counts}
+use Rattle.answers.specs.declared.tally.Tally.{Tally as Counts}
 use Rattle.records.specs.Records.{views_in}
 use Rattle.records.specs.Outcomes.{tally_from}
 

@@ -15,8 +15,8 @@ ghost use Rattle.records.specs.Records.{views_in};
 ghost use Rattle.records.specs.Outcomes.{tally_from};
 ghost use Rattle.listing.specs.Walks.{ListingAlong};
 
+use answers::Tally;
 use guess::outline::Outline;
-use records::outcome::Tally;
 use whole::whole;
 
 // The listing along a list that has every guess, each once, the larger ones first; entries that are no guess are passed over. The six

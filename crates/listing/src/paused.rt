@@ -13,11 +13,12 @@ ghost use Rattle.records.specs.Outcomes.{tally_from};
 ghost use Rattle.listing.specs.Walks.{walked_in};
 ghost use Rattle.listing.specs.Pauses.{fresh, Ready, Looked, Advanced, Along, Stands};
 
+use answers::Tally;
 use guess::outline::Outline;
 use guess::reduct::reduct;
 use propagation::contradicted;
 use records::covered_by;
-use records::outcome::{Outcome, Tally, count, judged, note};
+use records::outcome::{Outcome, count, judged, note};
 use sets::power;
 
 // How many entries of the order are passed, and the six counts; whether the next guess is known to be one that is tested, and then how many

@@ -12,9 +12,10 @@ ghost use Rattle.records.specs.Outcomes.{tally_from};
 ghost use Rattle.listing.specs.Walks.{walked_in};
 
 use super::entries::examine;
+use answers::Tally;
 use guess::outline::Outline;
 use records::covered_by;
-use records::outcome::{Outcome, Tally, count, note};
+use records::outcome::{Outcome, count, note};
 use sets::power;
 
 // One guess more: covered by a view already met, or examined, and its record written where it is a view.

@@ -11,8 +11,8 @@ ghost use Rattle.listing.specs.Pauses.{Along};
 
 use super::paused::Paused;
 use super::rest::rest;
+use answers::Tally;
 use guess::outline::Outline;
-use records::outcome::Tally;
 use sets::power;
 use verdicts::judge_all;
 

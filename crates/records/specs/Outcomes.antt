@@ -5,7 +5,7 @@ use Rattle.semantics.specs.Definitions.Verdict.{verdict}
 use Rattle.semantics.specs.Definitions.Propagation.{contradicted}
 use Rattle.semantics.specs.Definitions.Listing.{Tally}
 use Rattle.semantics.specs.Walk as walk
-use Rattle.records.specs.declared.outcome.Tally.{Tally as Counts}
+use Rattle.answers.specs.declared.tally.Tally.{Tally as Counts}
 use Rattle.records.specs.declared.outcome.Outcome.{Outcome}
 use Rattle.records.specs.declared.outcome.Outcome.TheVariants.{Covered, Ruled, Empty, Other, View}
 use Rattle.records.specs.Records.{view_from}

@@ -6,7 +6,6 @@ ghost use Rattle.records.specs.Records.{views_in};
 
 use sets::Set;
 
-
 // Is the atom known in each of the first n records?
 pub fn known_in_all(records: &[u16], n: usize, atom: u16) -> bool
     requires { (4 * n ≤ length records.now) × (atom < 16) }

@@ -12,6 +12,7 @@ ghost use Rattle.guess.specs.Negations.{Few};
 ghost use Rattle.records.specs.Outcomes.{tally_from, outcome_from};
 
 use super::{View, write_record};
+use answers::Tally;
 use guess::outline::Outline;
 use verdict::{Verdict, judge};
 
@@ -23,17 +24,6 @@ pub enum Outcome {
     Empty,
     Other,
     View(View),
-}
-
-// How many guesses count as what.
-#[derive(Clone, Copy)]
-pub struct Tally {
-    pub views: usize,
-    pub covered: usize,
-    pub ruled: usize,
-    pub tested: usize,
-    pub empty: usize,
-    pub other: usize,
 }
 
 // The counts with one guess more.

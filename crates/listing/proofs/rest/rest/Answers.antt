@@ -7,7 +7,7 @@ use lib.ListN.{length, get_or}
 use lib.Pow.{pow_mono}
 use Rattle.semantics.specs.Walk.{walk}
 use Rattle.guess.specs.Programs.{setting_in}
-use Rattle.records.specs.declared.outcome.Tally.{Tally}
+use Rattle.answers.specs.declared.tally.Tally.{Tally}
 use Rattle.listing.proofs.Along.{passed, along_more, along_same, counts_few, views_fewer}
 use Rattle.listing.proofs.Levels.{along_levels}
 use Rattle.listing.proofs.RestLoop.{holds}

@@ -1,0 +1,9 @@
+// A refusal.
+use super::reason::Reason;
+
+// Its reason, and its place: a place in the sheet or the calendar, or (where too few words are lent) how many there are to write.
+#[derive(Clone, Copy, Debug, PartialEq, Eq)]
+pub struct Refusal {
+    pub reason: Reason,
+    pub place: usize,
+}
