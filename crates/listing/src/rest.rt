@@ -61,8 +61,7 @@ pub fn rest(
 {
     let end = power(x.negations as u16);
     let mut counts = tally;
-    let mut i = at;
-    while i < order.len() {
+    for i in at..order.len() {
         let guess = order[i];
         if guess < end {
             counts = pass(
@@ -76,7 +75,6 @@ pub fn rest(
                 &mut records[..],
             );
         }
-        i += 1;
     }
     counts
 }

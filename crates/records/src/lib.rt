@@ -53,11 +53,9 @@ pub fn write_records(records: &[u16], n: usize, out: &mut [u16])
     requires { (4 * n ≤ length records.now) × (4 * n ≤ length out.old) }
     ensures { out.new ≡ written (words (views_in records.now n)) out.old }
 {
-    let mut i = 0;
-    while i < n {
+    for i in 0..n {
         let v = view_at(records, i);
         write_record(v, &mut out[4 * i..]);
-        i += 1;
     }
 }
 
@@ -68,8 +66,7 @@ pub fn covered_by(records: &[u16], n: usize, guess: u16) -> bool
     ensures { result ≡ some (λ v. guess ⊂? v.guess) (views_in records.now n) }
 {
     let level = size(guess);
-    let mut j = 0;
-    while j < n {
+    for j in 0..n {
         let other = records[4 * j];
         if subset(guess, other) {
             return level < size(other);
@@ -77,7 +74,6 @@ pub fn covered_by(records: &[u16], n: usize, guess: u16) -> bool
         if size(other) <= level {
             return false;
         }
-        j += 1;
     }
     false
 }

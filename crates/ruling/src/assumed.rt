@@ -16,12 +16,10 @@ pub fn number(x: Outline, numbers: &mut [u16])
     ensures numbers { Numbers x x.atoms numbers.new }
 {
     let all = full(x.atoms as u16);
-    let mut a = 0;
-    while a < x.atoms {
+    for a in 0..x.atoms {
         let one = power(a as u16);
         numbers[a] = found(x, all.minus(one), 0);
         numbers[16 + a] = found(x, all, one);
-        a += 1;
     }
 }
 
@@ -31,10 +29,8 @@ pub fn assume(low: &[u64; 128], numbers: &[u16], from: usize, w: u16, lanes: &mu
     ensures lanes_len_unchanged { length lanes.new ≡ length lanes.old }
     ensures assumed_in { AssumedIn numbers.now from w 16 lanes.new }
 {
-    let mut a = 0;
-    while a < 16 {
+    for a in 0..16 {
         let left_out = cube(low, numbers[from + a], 0, w);
         lanes[a] = u64::MAX.minus(left_out);
-        a += 1;
     }
 }

@@ -12,12 +12,10 @@ pub fn empty_head(words: &[u16], rules: usize, truths: &[u64], falsities: &[u64]
     ensures { Lanes (EmptyHeadIn words.now rules truths.now falsities.now) result }
 {
     let mut lanes = 0;
-    let mut j = 0;
-    while j < rules {
+    for j in 0..rules {
         if words[8 * j] == 0 {
             lanes = lanes | sure(words, j, truths, falsities);
         }
-        j += 1;
     }
     lanes
 }

@@ -7,7 +7,6 @@ ghost use Rattle.ruling.specs.Laid.{Laid};
 
 use sets::Set;
 
-
 // The lanes that are in the word of every atom of the mask; all where it has none.
 pub fn in_all(mask: u16, rows: &[u64], from: usize) -> u64
     requires { from + 16 ≤ length rows.now }
@@ -72,12 +71,10 @@ pub fn lay(x: &[u64], less: &[u64], more: &[u64], rows: &mut [u64])
     ensures rows_len_unchanged { length rows.new ≡ length rows.old }
     ensures laid { Laid x.now less.now more.now 16 rows.new }
 {
-    let mut a = 0;
-    while a < 16 {
+    for a in 0..16 {
         let lanes = x[a];
         rows[a] = lanes;
         rows[16 + a] = lanes.minus(less[a]);
         rows[32 + a] = lanes | more[a];
-        a += 1;
     }
 }

@@ -46,13 +46,11 @@ fn follow(
     ensures t_len_unchanged { (length t.new ≡ length t.old) × (length shut.new ≡ length shut.old) }
     ensures followed { Followed words.now truths.now falsities.now rules t.old shut.old t.new shut.new }
 {
-    let mut j = 0;
-    while j < rules {
+    for j in 0..rules {
         let head = words[8 * j];
         let a = lone(head);
         t[a] = t[a] | sure(words, j, truths, falsities);
         narrow(head, dead(words, j, truths, falsities), &mut shut[..]);
-        j += 1;
     }
 }
 
@@ -62,10 +60,8 @@ fn enter(shut: &[u64], n: usize, f: &mut [u64])
     ensures f_len_unchanged { length f.new ≡ length f.old }
     ensures entered { Entered shut.now n f.old f.new }
 {
-    let mut a = 0;
-    while a < n {
+    for a in 0..n {
         f[a] = f[a] | shut[a];
-        a += 1;
     }
 }
 

@@ -10,12 +10,10 @@ fn same(x: &[u64], y: &[u64]) -> bool
     requires { (16 ≤ length x.now) × (16 ≤ length y.now) }
     ensures { result ≡ true → Same 16 x.now y.now }
 {
-    let mut a = 0;
-    while a < 16 {
+    for a in 0..16 {
         if x[a] != y[a] {
             return false;
         }
-        a += 1;
     }
     true
 }
@@ -68,11 +66,9 @@ pub fn propagate(
     ensures t_len_unchanged { (length t.new ≡ length t.old) × (length f.new ≡ length f.old) }
     ensures settled { Settled words.now rules n u.now p.now t.new f.new }
 {
-    let mut i = 0;
-    while i < 2 * n {
+    for i in 0..2 * n {
         if advance(words, rules, n, u, p, &mut t[..], &mut f[..]) {
             return;
         }
-        i += 1;
     }
 }

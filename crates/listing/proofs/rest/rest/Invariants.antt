@@ -1,12 +1,7 @@
 -- `listing::rest::rest` meets its contract. Assumes nothing.
-use Prim.Native.Nat.{◌-◌}
-use lib.ListN.{length}
 use Rattle.guess.specs.Programs.{setting_in}
 use Rattle.listing.proofs.RestLoop.{holds}
 use Rattle.listing.proofs.rest.rest.Given as goal
 
 abbrev pub invariant-loop-i : goal.invariant-loop-i
 invariant-loop-i l = holds (setting_in l.x l.words) l.x.negations l.order l.initial.records l.i l.records l.counts
-
-abbrev pub decreases-loop-i : goal.decreases-loop-i
-decreases-loop-i l = length l.order - l.i

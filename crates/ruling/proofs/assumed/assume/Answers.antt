@@ -24,12 +24,6 @@ loop-a-init c = (omega arith, refl, assumed-none _ _ _ _)
 pub bounds-lanes-a : goal.bounds-lanes-a
 bounds-lanes-a c = in_long c.loop-a-test.true c.loop-a.invariant.1 c.requires.2
 
-pub overflow_add-a : goal.overflow_add-a
-overflow_add-a c = fits_more c.loop-a-test.true
-
-pub loop-a-smaller : goal.loop-a-smaller
-loop-a-smaller c = falls c.loop-a-test.true
-
 pub loop-a-preserved : goal.loop-a-preserved
 loop-a-preserved c =
     let l = c.loop-a in (

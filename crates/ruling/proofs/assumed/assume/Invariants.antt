@@ -1,5 +1,5 @@
 -- `ruling::assumed::assume` meets its contract. Assumes nothing.
-use Prim.Native.Nat.{◌-◌, ◌≤◌}
+use Prim.Native.Nat.{◌≤◌}
 use mathlib.Core.Path.{◌≡◌}
 use lib.ListN.{length}
 use Rattle.ruling.specs.Assumed.{AssumedIn}
@@ -7,6 +7,3 @@ use Rattle.ruling.proofs.assumed.assume.Given as goal
 
 abbrev pub invariant-loop-a : goal.invariant-loop-a
 invariant-loop-a l = (l.a ≤ 16) × (length l.lanes ≡ length l.initial.lanes) × AssumedIn l.numbers l.from l.w l.a l.lanes
-
-abbrev pub decreases-loop-a : goal.decreases-loop-a
-decreases-loop-a l = 16 - l.a

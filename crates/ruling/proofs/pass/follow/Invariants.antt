@@ -1,5 +1,5 @@
 -- `ruling::pass::follow` meets its contract. Assumes nothing.
-use Prim.Native.Nat.{◌-◌, ◌≤◌}
+use Prim.Native.Nat.{◌≤◌}
 use mathlib.Core.Path.{◌≡◌}
 use lib.ListN.{length}
 use Rattle.ruling.specs.Pass.{Followed}
@@ -7,6 +7,3 @@ use Rattle.ruling.proofs.pass.follow.Given as goal
 
 abbrev pub invariant-loop-j : goal.invariant-loop-j
 invariant-loop-j l = (l.j ≤ l.rules) × (length l.t ≡ length l.initial.t) × (length l.shut ≡ length l.initial.shut) × Followed l.words l.truths l.falsities l.j l.initial.t l.initial.shut l.t l.shut
-
-abbrev pub decreases-loop-j : goal.decreases-loop-j
-decreases-loop-j l = l.rules - l.j
