@@ -6,8 +6,7 @@ use mathlib.Core.List.{List, [], ◌∷◌, ◌++◌, map, append_assoc}
 use native.Mathlib.Nat.{le_of_suc-le-suc, not-suc-le-zero}
 use native.Mathlib.Numerals.{add-one}
 use native.Mathlib.Omega.{arith}
-use borrow.Author.Tests.{le-leb, lt-leb}
-use lib.Dec.{leb}
+use borrow.Author.Tests.{le-leb}
 use lib.ListN.{length, get_or, drop, length-drop}
 use lib.Seq.{length-take-le}
 use Rattle.sets.specs.Lists.{◌among◌, here, later, keep, flat, flat_snoc, up_to, among-up_to, get_or-among}
@@ -49,17 +48,6 @@ module _ (s : List ℕ) where
   -- a name that is there and short enough
   pub name_there : (p : ℕ) → byte_at s p ≤ longest_name → after_name s p ≤ length s → name_field s p ≡ 32 ∷ name_from s p
   name_there p h l = rw (le-leb (byte_at s p) longest_name h) (rw (le-leb (after_name s p) (length s) l))
-
-  -- one that is not
-  pub name_long_byte : (p : ℕ) → longest_name < byte_at s p → name_field s p ≡ []
-  name_long_byte p h = rw (lt-leb (byte_at s p) longest_name h)
-
-  pub name_cut : (p : ℕ) → length s < after_name s p → name_field s p ≡ []
-  name_cut p l = go (leb (byte_at s p) longest_name)
-    where
-      go : (b : Bool) → cond b (cond (leb (after_name s p) (length s)) (32 ∷ name_from s p) []) [] ≡ []
-      go true = rw (lt-leb (after_name s p) (length s) l)
-      go false = refl
 
   pub name_long : (p : ℕ) → after_name s p ≤ length s → length (name_from s p) ≡ byte_at s p
   name_long p l = length-take-le (byte_at s p) (drop (p + 1) s) (omega (arith, length-drop (p + 1) s))

@@ -13,10 +13,7 @@ use sets::Set;
 fn byte(s: &[u8], place: usize) -> usize
     ensures { (result ≡ byte_at s.now place) × (result < 256) }
 {
-    if place < s.len() {
-        return s[place] as usize;
-    }
-    0
+    usize::from(s.get(place).copied().unwrap_or(0))
 }
 
 // The number of atoms, if it is one that a sheet can have.
@@ -70,11 +67,9 @@ pub fn put_names(s: &[u8], set: u16, from: usize, out: &mut [u8]) -> usize
     let n = atoms(s);
     let mut at = from;
     let mut place = 1;
-    let mut a = 0;
-    while a < n {
+    for a in 0..n {
         at = put_member(s, a, set, place, at, out);
         place = place + 1 + byte(s, place);
-        a += 1;
     }
     at
 }

@@ -4,17 +4,14 @@ use Rattle.text.proofs.Fields.{whole, same_line}
 use Rattle.text.proofs.Named.{view_says}
 use Rattle.text.proofs.view_line.Goals as goal
 
-pub returns : goal.returns
-returns c =
-    let a = c.args in
-    let word = c.put-a.ensures in
-    let guess = c.put_field-b.ensures.appended in
-    let sets = c.put_field-c.ensures.appended in
-    let names = c.put_names-d.ensures.appended in
-    let byte = c.put.ensures in
-    let (counted, held) = whole (and_then (and_then (and_then (and_then word guess) sets) names) byte) in
-    record {
-      counts = counted;
-      holds = held;
-      holds_for = λ names e. same_line (view_says a.sheet.now names e a.guess a.sets a.known) held;
-    }
+pub returns-clause-holds : goal.returns-clause-holds
+returns-clause-holds c =
+    (whole (and_then (and_then (and_then (and_then c.put-a.ensures
+    c.put_field-b.ensures.appended)
+    c.put_field-c.ensures.appended)
+    c.put_names-d.ensures.appended)
+    c.put.ensures)).1
+
+pub returns-clause-holds_for : goal.returns-clause-holds_for
+returns-clause-holds_for c = λ names e.
+    same_line (view_says c.args.sheet.now names e c.args.guess c.args.sets c.args.known) (returns-clause-holds c)

@@ -6,7 +6,7 @@ use mathlib.Core.Bool.{cond}
 use mathlib.Core.List.{List, []}
 use Rattle.sets.specs.Sets.{◌∈?◌}
 use Rattle.semantics.specs.Fields.{after_names}
-use Rattle.text.specs.Names.{name_field, member_fields}
+use Rattle.text.specs.Names.{name_field}
 use Rattle.text.proofs.Append.{nothing, and_then, same_text}
 use Rattle.text.proofs.Named.{no_members, member-more, place_more}
 use Rattle.text.proofs.names.put_names.Goals as goal
@@ -35,18 +35,3 @@ loop-a-preserved c =
       omega (arith, near, next.1),
       omega (arith, low, put.ensures.upper_bound),
     )
-
-pub shape_of-out : goal.shape_of-out
-shape_of-out c = c.loop-a.invariant.1
-
-pub returns : goal.returns
-returns c =
-    let a = c.args in
-    let l = c.loop-a in
-    let atoms = c.atoms-n.ensures in
-    let all : l.a ≡ c.atoms-n.result = omega (arith, l.invariant.0, c.loop-a-test.false) in
-    let (_, _, text, _, _, low) = l.invariant in
-    record {
-      appended = same_text (ap (member_fields a.s.now a.set) (all ∙ atoms.0)) text;
-      upper_bound = omega (arith, low, all, atoms.1);
-    }

@@ -10,11 +10,8 @@ digits-requires c =
     let small : n < 2 ^ 64 = omega arith in
     omega (arith, c.requires, decimal_word n small)
 
-pub returns : goal.returns
-returns c =
+pub returns-clause-upper_bound : goal.returns-clause-upper_bound
+returns-clause-upper_bound c =
     let n = c.args.n in
     let small : n < 2 ^ 64 = omega arith in
-    record {
-      appended = c.digits.ensures;
-      upper_bound = omega (arith, c.digits.ensures.next, decimal_word n small);
-    }
+    omega (arith, c.digits.ensures.next, decimal_word n small)
