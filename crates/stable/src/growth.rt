@@ -12,13 +12,11 @@ pub fn supported(positive: &[u16], rules: usize, i: u16) -> u16
     ensures { (a : ℕ) → a ∈ result ↔ Supported (positive_program_in positive.now rules) i a }
 {
     let mut set = 0;
-    let mut j = 0;
-    while j < rules {
+    for j in 0..rules {
         let head = positive[2 * j] & i;
         if size(head) <= 1 {
             set = set | head;
         }
-        j += 1;
     }
     set
 }
@@ -44,10 +42,8 @@ fn pass(positive: &[u16], rules: usize, i: u16, l: u16) -> u16
     ensures { Grows (positive_program_in positive.now rules) i l result }
 {
     let mut m = l;
-    let mut j = 0;
-    while j < rules {
+    for j in 0..rules {
         m = enter(positive, j, i, m);
-        j += 1;
     }
     m
 }

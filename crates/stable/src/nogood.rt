@@ -92,10 +92,8 @@ pub fn by_smaller(program: &[u16], rules: usize, i: u16, s: u16) -> Nogood
         has: i.minus(s),
         lacks: 0,
     };
-    let mut j = 0;
-    while j < rules {
+    for j in 0..rules {
         r = block(program, j, i, s, r);
-        j += 1;
     }
     r
 }
@@ -114,12 +112,10 @@ pub fn excluded_by(nogoods: &[u16], i: u16) -> usize
     requires { 2 * kept ≤ length nogoods.now }
     ensures { result < kept → allowed (has_in nogoods.now result) (lacks_in nogoods.now result) i ≡ true }
 {
-    let mut k = 0;
-    while k < 16 {
+    for k in 0..16 {
         if excludes(nogoods, k, i) {
             return k;
         }
-        k += 1;
     }
     16
 }

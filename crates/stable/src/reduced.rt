@@ -30,8 +30,7 @@ pub fn reduce(program: &[u16], rules: usize, i: u16, out: &mut [u16]) -> Reduced
     ensures reduced_by { ReducedBy program.now rules i out.new result }
 {
     let mut n = 0;
-    let mut j = 0;
-    while j < rules {
+    for j in 0..rules {
         if applies(program, j, i) {
             let from = 4 * j;
             let head = program[from];
@@ -43,7 +42,6 @@ pub fn reduce(program: &[u16], rules: usize, i: u16, out: &mut [u16]) -> Reduced
             out[to + 1] = program[from + 1];
             n += 1;
         }
-        j += 1;
     }
     Reduced::Model(n)
 }

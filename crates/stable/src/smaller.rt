@@ -35,12 +35,10 @@ fn is_model(positive: &[u16], rules: usize, i: u16) -> bool
     requires { 2 * rules ≤ length positive.now }
     ensures { result ≡ is_model (positive_program_in positive.now rules) i }
 {
-    let mut j = 0;
-    while j < rules {
+    for j in 0..rules {
         if !positive_satisfied(positive, j, i) {
             return false;
         }
-        j += 1;
     }
     true
 }

@@ -51,8 +51,7 @@ pub fn gather(
     let mut possible = 0;
     let mut sets = 0;
     let mut tests = 0;
-    let mut i = 0;
-    while i != end {
+    for i in 0..end {
         if test_set(
             program,
             rules,
@@ -68,7 +67,6 @@ pub fn gather(
             sets += 1;
         }
         tests += 1;
-        i += 1;
     }
     Gathered {
         known,

@@ -1,5 +1,5 @@
 -- `stable::reduced::reduce` meets its contract. The rules passed are satisfied in i, and those written are the ones whose bodies hold. Assumes nothing.
-use Prim.Native.Nat.{ℕ, ◌-◌, ◌≤◌, ◌<◌}
+use Prim.Native.Nat.{ℕ, ◌≤◌, ◌<◌}
 use mathlib.Core.Path.{◌≡◌}
 use mathlib.Core.Bool.{true}
 use lib.ListN.{length}
@@ -11,6 +11,3 @@ use Rattle.stable.proofs.reduced.reduce.Given as goal
 abbrev pub invariant-loop-j : goal.invariant-loop-j
 invariant-loop-j l = (l.j ≤ l.rules) × (l.n ≤ l.j) × (length l.out ≡ length l.initial.out) × (positive_program_in l.out l.n ≡ applied l.i (program_in l.program l.j))
     × ((k : ℕ) → k < l.j → satisfies l.i (rule_in l.program k) ≡ true)
-
-abbrev pub decreases-loop-j : goal.decreases-loop-j
-decreases-loop-j l = l.rules - l.j

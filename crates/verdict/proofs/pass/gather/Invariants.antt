@@ -1,5 +1,5 @@
 -- `verdict::pass::gather` meets its contract. Assumes nothing.
-use Prim.Native.Nat.{◌-◌, ◌≤◌}
+use Prim.Native.Nat.{◌≤◌}
 use mathlib.Core.Path.{◌≡◌}
 use mathlib.Core.List.{◌++◌}
 use lib.ListN.{length}
@@ -15,6 +15,3 @@ abbrev pub invariant-loop-i : goal.invariant-loop-i
 invariant-loop-i l = let p = program_in l.program l.rules ++ day_constraints l.ins l.outs in
     (l.tests ≡ l.i) × (l.i ≤ l.end) × (l.sets ≤ l.i) × (having l.known l.possible l.sets l.tests ≡ pass_over l.atoms p (up_to l.i)) × (l.out ≡ written_to p l.i l.initial.out) × (length l.room ≡ 142)
     × ((length l.nogoods ≡ 34) × Nogoods l.ins l.outs (program_in l.program l.rules) l.nogoods)
-
-abbrev pub decreases-loop-i : goal.decreases-loop-i
-decreases-loop-i l = l.end - l.i
