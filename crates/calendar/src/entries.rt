@@ -84,14 +84,12 @@ fn entries(c: &[u8], rules: usize, n: usize, out: &mut [u16]) -> Step
     ensures all_entered { AllEntered (times n [] (λ _. entry_at c.now rules) 1) result n out.new }
 {
     let mut at = 1;
-    let mut i = 0;
-    while i < n {
+    for i in 0..n {
         let step = entry(c, rules, at, &mut out[..], i);
         let Step::Got(next) = step else {
             return step;
         };
         at = next;
-        i += 1;
     }
     Step::Got(at)
 }

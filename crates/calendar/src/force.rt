@@ -7,7 +7,6 @@ ghost use Rattle.calendar.specs.Force.{unrestricted as unrestrictedOf, held_from
 
 use sets::Set;
 
-
 // Is the minute in the hours from first to end?
 fn open_at(first: u16, end: u16, minute: u16) -> bool
     ensures { result ≡ open_at first end minute }
@@ -25,12 +24,10 @@ fn restricted(entries: &[u16], n: usize, rule: u16) -> bool
     requires { 3 * n ≤ length entries.now }
     ensures { result ≡ not (null (entries_of (entries_in entries.now n) rule)) }
 {
-    let mut i = 0;
-    while i < n {
+    for i in 0..n {
         if entries[3 * i] == rule {
             return true;
         }
-        i += 1;
     }
     false
 }
@@ -41,11 +38,9 @@ pub fn unrestricted(entries: &[u16], n: usize, rules: usize) -> u64
     ensures { result ≡ unrestrictedOf (entries_in entries.now n) rules }
 {
     let mut set = 0u64;
-    let mut rule = 0;
-    while rule < rules {
+    for rule in 0..rules {
         let some = restricted(entries, n, rule as u16);
         set = set.include(rule as u64, !some);
-        rule += 1;
     }
     set
 }
@@ -56,11 +51,9 @@ pub fn with_held(entries: &[u16], n: usize, set: u64, minute: u16) -> u64
     ensures { result ≡ held_from set minute (entries_in entries.now n) }
 {
     let mut held = set;
-    let mut i = 0;
-    while i < n {
+    for i in 0..n {
         let open = open_at(entries[3 * i + 1], entries[3 * i + 2], minute);
         held = held.include(entries[3 * i] as u64, open);
-        i += 1;
     }
     held
 }

@@ -25,11 +25,9 @@ fn next(entries: &[u16], n: usize, minute: u16) -> u16
     ensures { result ≡ next_of minute (entries_in entries.now n) }
 {
     let mut best = 10080;
-    let mut i = 0;
-    while i < n {
+    for i in 0..n {
         let first = nearer(minute, best, entries[3 * i + 1]);
         best = nearer(minute, first, entries[3 * i + 2]);
-        i += 1;
     }
     best
 }

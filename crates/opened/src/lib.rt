@@ -9,16 +9,9 @@ ghost use Rattle.opened.specs.Fetched.{RulesBegin, RuleByNumber};
 use opened_sheet::{opened_at, rule_of};
 pub use words::{load, load_only};
 
-// What fetching a rule answers.
-#[derive(Clone, Copy)]
-pub enum Fetched {
-    // the place of its first byte
-    Rule { place: usize },
-    NoRule,
-}
-
-// The rule of a number of an accepted sheet, whose rules begin at a place and are so many: fetched from the opened sheet.
-pub fn fetch(s: &[u8], rules_at: usize, rules: usize, number: usize) -> Fetched
+// The rule of a number of an accepted sheet, whose rules begin at a place and are so many: fetched from the opened sheet. The place of its
+// first byte, or `None` where there is no rule of that number.
+pub fn fetch(s: &[u8], rules_at: usize, rules: usize, number: usize) -> Option<usize>
     requires { RulesBegin s.now rules_at rules }
     ensures { RuleByNumber s.now number result }
 {

@@ -3,8 +3,6 @@ ghost use Rattle.std.specs.Prelude.{◌≡◌, ◌+◌, ◌*◌, ◌≤◌};
 ghost use Rattle.semantics.specs.Definitions.Sheet.{longest_sheet};
 ghost use Rattle.opened.specs.Fetched.{fetched, RulesBegin, RuleByNumber};
 
-use super::Fetched;
-
 // It refers to the lent bytes and remembers where the rules begin, and how many there are.
 #[derive(Clone, Copy)]
 pub struct OpenedSheet<'a> {
@@ -26,7 +24,7 @@ pub fn opened_at<'a>(bytes: &'a [u8], rules_at: usize, rules: usize) -> OpenedSh
 }
 
 // The rule of a number.
-pub fn rule_of<'a>(sheet: OpenedSheet<'a>, number: usize) -> Fetched
+pub fn rule_of<'a>(sheet: OpenedSheet<'a>, number: usize) -> Option<usize>
     requires { RulesBegin sheet.bytes.now sheet.rules_at sheet.rules }
     ensures { RuleByNumber sheet.entry.bytes.now number result }
 {
@@ -34,14 +32,12 @@ pub fn rule_of<'a>(sheet: OpenedSheet<'a>, number: usize) -> Fetched
 }
 
 // The work, over the numbers: a rule has sixteen bytes.
-fn rule_from(rules_at: usize, rules: usize, number: usize) -> Fetched
+fn rule_from(rules_at: usize, rules: usize, number: usize) -> Option<usize>
     requires { rules_at + 16 * rules ≤ longest_sheet }
     ensures { result ≡ fetched rules_at rules number }
 {
     if number < rules {
-        return Fetched::Rule {
-            place: rules_at + 16 * number,
-        };
+        return Some(rules_at + 16 * number);
     }
-    Fetched::NoRule
+    None
 }

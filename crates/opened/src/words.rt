@@ -7,7 +7,7 @@ ghost use Rattle.sheet.specs.Opened.{Holds};
 ghost use Rattle.opened.specs.Fetched.{RulesBegin};
 ghost use Rattle.opened.specs.Loaded.{RulesLoad, RulesLoadOnly, Atoms, constraint_masks, Loads, LoadsOnly};
 
-use super::{Fetched, fetch};
+use super::fetch;
 use sets::{Set, power};
 use sheet::{Contents, word};
 
@@ -18,10 +18,8 @@ fn load_rule(s: &[u8], place: usize, out: &mut [u16], n: usize)
     ensures out_unchanged { take (8 * n) out.new ≡ take (8 * n) out.old }
     ensures n_after { masks_in out.new n ≡ rule_from s.now place }
 {
-    let mut i = 0;
-    while i < 8 {
+    for i in 0..8 {
         out[8 * n + i] = word(s, place + 2 * i);
-        i += 1;
     }
 }
 
@@ -31,12 +29,9 @@ fn load_rules(s: &[u8], rules_at: usize, rules: usize, out: &mut [u16])
     ensures out_len_unchanged { length out.new ≡ length out.old }
     ensures rules_load { RulesLoad s.now rules out.new }
 {
+    // `fetch` tells the end, so the numbers are counted by hand
     let mut number = 0;
-    loop {
-        let fetched = fetch(s, rules_at, rules, number);
-        let Fetched::Rule { place } = fetched else {
-            return;
-        };
+    while let Some(place) = fetch(s, rules_at, rules, number) {
         load_rule(s, place, &mut out[..], number);
         number += 1;
     }
@@ -65,15 +60,13 @@ fn load_rules_in(s: &[u8], rules_at: usize, rules: usize, set: u64, out: &mut [u
     ensures rules_load_only { RulesLoadOnly s.now set result out.new }
 {
     let mut n = 0;
+    // `fetch` tells the end, so the numbers are counted by hand
     let mut number = 0;
-    loop {
-        let fetched = fetch(s, rules_at, rules, number);
-        let Fetched::Rule { place } = fetched else {
-            return n;
-        };
+    while let Some(place) = fetch(s, rules_at, rules, number) {
         n = load_where(s, place, &mut out[..], n, set.has(number as u64));
         number += 1;
     }
+    n
 }
 
 // Mask i of a constraint that has these atoms plain and no other literal.
@@ -93,10 +86,8 @@ fn load_constraint(plain: u16, out: &mut [u16], n: usize)
     ensures out_unchanged { take (8 * n) out.new ≡ take (8 * n) out.old }
     ensures n_after { masks_in out.new n ≡ constraint_masks plain }
 {
-    let mut i = 0;
-    while i < 8 {
+    for i in 0..8 {
         out[8 * n + i] = constraint_mask(i, plain);
-        i += 1;
     }
 }
 
@@ -106,12 +97,10 @@ fn load_pairs(s: &[u8], from: usize, pairs: usize, out: &mut [u16], n: usize)
     ensures out_len_unchanged { length out.new ≡ length out.old }
     ensures pairs_after { rules_in out.new (n + pairs) ≡ rules_in out.old n ++ pairs_written (pairs_from s.now pairs from) }
 {
-    let mut i = 0;
-    while i < pairs {
+    for i in 0..pairs {
         let first = power(s[from + 2 * i] as u16);
         let second = power(s[from + 2 * i + 1] as u16);
         load_constraint(first | second, &mut out[..], n + i);
-        i += 1;
     }
 }
 

@@ -34,33 +34,15 @@ fn name_bytes(s: &[u8], n: usize, c: Cursor) -> Field
     ensures { result ≡ field_of (λ _. n) (λ _. moved c) (times n [] (name_byte_at s.now) c.at) }
 {
     let from = c.at;
-    let mut i = 0;
-    while i < n {
+    for i in 0..n {
         let at = from + i;
-        if name_byte(i, s[at]) {
-            i += 1;
-        } else {
+        if !name_byte(i, s[at]) {
             return Field::Refused(3, at);
         }
     }
     let mut next = c;
-    next.at = from + i;
+    next.at = from + n;
     Field::Got(n, next)
-}
-
-// Are the n bytes from one place those from another?
-fn same_bytes(s: &[u8], n: usize, p: usize, q: usize) -> bool
-    requires { (p + n ≤ length s.now) × (q + n ≤ length s.now) }
-    ensures { result ≡ same_list (bytes_from s.now n p) (bytes_from s.now n q) }
-{
-    let mut i = 0;
-    while i < n {
-        if s[p + i] != s[q + i] {
-            return false;
-        }
-        i += 1;
-    }
-    true
 }
 
 // Are the names whose lengths stand at two places the same?
@@ -68,12 +50,9 @@ fn same_name(s: &[u8], p: usize, q: usize) -> bool
     requires { (after_name s.now p ≤ length s.now) × (after_name s.now q ≤ length s.now) }
     ensures { result ≡ same_list (name_from s.now p) (name_from s.now q) }
 {
-    let n = s[p];
-    let m = s[q];
-    if n == m {
-        return same_bytes(s, n as usize, p + 1, q + 1);
-    }
-    false
+    let n = s[p] as usize;
+    let m = s[q] as usize;
+    s[p + 1..p + 1 + n] == s[q + 1..q + 1 + m]
 }
 
 // Is the name at q one of the n names from a place on?
@@ -81,14 +60,12 @@ fn repeated(s: &[u8], n: usize, from: usize, q: usize) -> bool
     requires { (after_names s.now n from ≤ q) × (after_name s.now q ≤ length s.now) }
     ensures { result ≡ some (same_list (name_from s.now q)) (names_from s.now n from) }
 {
-    let mut i = 0;
     let mut p = from;
-    while i < n {
+    for i in 0..n {
         if same_name(s, q, p) {
             return true;
         }
         p = p + 1 + s[p] as usize;
-        i += 1;
     }
     false
 }
@@ -130,14 +107,12 @@ pub fn names(s: &[u8], first: Cursor) -> Field
     let n = first.atoms;
     let from = first.at;
     let mut c = first;
-    let mut i = 0;
-    while i < n {
+    for i in 0..n {
         let f = name(s, i, from, c);
         let Field::Got(_, next) = f else {
             return f;
         };
         c = next;
-        i += 1;
     }
     Field::Got(n, c)
 }

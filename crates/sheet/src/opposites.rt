@@ -14,14 +14,7 @@ fn taken(s: &[u8], from: usize, n: usize, atom: u8) -> bool
     requires { from + n ≤ length s.now }
     ensures { result ≡ some (eqb atom) (bytes_from s.now n from) }
 {
-    let mut i = 0;
-    while i < n {
-        if atom == s[from + i] {
-            return true;
-        }
-        i += 1;
-    }
-    false
+    s[from..from + n].contains(&atom)
 }
 
 // Are these two atoms of the sheet, not the same, and in none of the i pairs from a place?
@@ -68,14 +61,12 @@ pub fn pairs(s: &[u8], first: Cursor) -> Field
     let n = first.pairs;
     let from = first.at;
     let mut c = first;
-    let mut i = 0;
-    while i < n {
+    for i in 0..n {
         let f = pair(s, i, from, c);
         let Field::Got(_, next) = f else {
             return f;
         };
         c = next;
-        i += 1;
     }
     Field::Got(n, c)
 }

@@ -40,14 +40,12 @@ fn masks(s: &[u8], first: Cursor) -> Field
     ensures { result ≡ field_of (λ _. 8) (λ masks. moved (noted first (masks ∷ []))) (times 8 [] (λ _. mask_at s.now first.atoms) first.at) }
 {
     let mut c = first;
-    let mut i = 0;
-    while i < 8 {
+    for i in 0..8 {
         let f = mask(s, i, c);
         let Field::Got(_, next) = f else {
             return f;
         };
         c = next;
-        i += 1;
     }
     Field::Got(8, c)
 }
@@ -70,14 +68,12 @@ pub fn rules(s: &[u8], first: Cursor) -> Field
 {
     let n = first.rules;
     let mut c = first;
-    let mut i = 0;
-    while i < n {
+    for i in 0..n {
         let f = rule(s, c);
         let Field::Got(_, next) = f else {
             return f;
         };
         c = next;
-        i += 1;
     }
     Field::Got(n, c)
 }

@@ -1,5 +1,5 @@
 -- `calendar::force::unrestricted` meets its contract. Assumes nothing.
-use Prim.Native.Nat.{◌-◌, ◌≤◌}
+use Prim.Native.Nat.{◌≤◌}
 use mathlib.Core.Path.{◌≡◌}
 use Rattle.calendar.specs.Entries.{entries_in}
 use Rattle.calendar.specs.Force as force
@@ -7,6 +7,3 @@ use Rattle.calendar.proofs.force.unrestricted.Given as goal
 
 abbrev pub invariant-loop-rule : goal.invariant-loop-rule
 invariant-loop-rule l = (l.rule ≤ l.rules) × (l.set ≡ force.unrestricted (entries_in l.entries l.n) l.rule)
-
-abbrev pub decreases-loop-rule : goal.decreases-loop-rule
-decreases-loop-rule l = l.rules - l.rule

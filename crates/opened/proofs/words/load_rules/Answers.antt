@@ -10,14 +10,14 @@ loop-place-init c =
     let a = c.args in
     (refl, omega arith, no_rules a.s.now a.rules_at a.out.now)
 
-pub fetch-fetched-requires : goal.fetch-fetched-requires
-fetch-fetched-requires c = c.requires.0
+pub fetch-requires : goal.fetch-requires
+fetch-requires c = c.requires.0
 
-pub shape_of-out-in_default : goal.shape_of-out-in_default
-shape_of-out-in_default c = c.loop-place.invariant.0
+pub shape_of-out : goal.shape_of-out
+shape_of-out c = c.loop-place.invariant.0
 
-pub returns-in_default : goal.returns-in_default
-returns-in_default c =
+pub returns : goal.returns
+returns c =
     let a = c.args in
     let l = c.loop-place in
     let all = fetched_all a.s.now a.rules_at a.rules c.requires.0 l.number c.in_default.ensures refl in
@@ -30,20 +30,20 @@ returns-in_default c =
 
 pub load_rule-requires : goal.load_rule-requires
 load_rule-requires c =
-    let (few, _, there) = fetched_place c.args.s.now c.args.rules_at c.args.rules c.requires.0 c.loop-place.number c.in-Rule.ensures refl in
+    let (few, _, there) = fetched_place c.args.s.now c.args.rules_at c.args.rules c.requires.0 c.loop-place.number c.in-Some.ensures refl in
     (there, omega (arith, c.loop-place.invariant.0, c.requires.1))
 
 pub overflow_add-number : goal.overflow_add-number
-overflow_add-number c = omega (arith, (fetched_place c.args.s.now c.args.rules_at c.args.rules c.requires.0 c.loop-place.number c.in-Rule.ensures refl).0)
+overflow_add-number c = omega (arith, (fetched_place c.args.s.now c.args.rules_at c.args.rules c.requires.0 c.loop-place.number c.in-Some.ensures refl).0)
 
 pub loop-place-smaller : goal.loop-place-smaller
-loop-place-smaller c = omega (arith, (fetched_place c.args.s.now c.args.rules_at c.args.rules c.requires.0 c.loop-place.number c.in-Rule.ensures refl).0)
+loop-place-smaller c = omega (arith, (fetched_place c.args.s.now c.args.rules_at c.args.rules c.requires.0 c.loop-place.number c.in-Some.ensures refl).0)
 
 pub loop-place-preserved : goal.loop-place-preserved
 loop-place-preserved c =
     let a = c.args in
     let l = c.loop-place in
-    let (few, there, _) = fetched_place c.args.s.now c.args.rules_at c.args.rules c.requires.0 c.loop-place.number c.in-Rule.ensures refl in
+    let (few, there, _) = fetched_place c.args.s.now c.args.rules_at c.args.rules c.requires.0 c.loop-place.number c.in-Some.ensures refl in
     let r = c.load_rule in (
       r.ensures.out_len_unchanged ∙ l.invariant.0,
       omega arith,

@@ -13,6 +13,7 @@ use Rattle.semantics.specs.Definitions.Reading.{Reading, refused, times}
 use Rattle.semantics.specs.Definitions.Sheet.{byte_at, name_byte, name_byte_at}
 use Rattle.semantics.specs.Fields.{bytes_from}
 use Rattle.semantics.proofs.Theorems.Fields.{bytes_from-more}
+use Rattle.sheet.specs.declared.steps.Field.TheVariants.{Got}
 use Rattle.sheet.specs.Steps.{field_of, moved}
 use Rattle.semantics.specs.Theorems.Turns.{starts, goes_on, stops, is_done}
 use Rattle.sheet.proofs.names.name_bytes.Goals as goal
@@ -51,14 +52,14 @@ pub loop-i-preserved : goal.loop-i-preserved
 loop-i-preserved c =
     let a = c.args in
     let l = c.loop-i in
-    let answered = sym c.name_byte.ensures ∙ c.if-name_byte.true in
+    let answered = sym c.name_byte.ensures ∙ c.if-not-name_byte.false in
     (omega arith, good a.s.now a.n a.c.at l.i c.loop-i-test.true c.requires l.invariant.1 answered)
 
-pub returns-else-name_byte : goal.returns-else-name_byte
-returns-else-name_byte c =
+pub returns-then-not-name_byte : goal.returns-then-not-name_byte
+returns-then-not-name_byte c =
     let a = c.args in
     let l = c.loop-i in
-    let answered = sym c.name_byte.ensures ∙ c.if-name_byte.false in
+    let answered = sym c.name_byte.ensures ∙ c.if-not-name_byte.true in
     sym (ap (field_of (λ _. a.n) (λ _. moved a.c))
     (bad a.s.now a.n a.c.at l.i c.loop-i-test.true c.requires l.invariant.1 answered))
 
@@ -66,5 +67,7 @@ pub returns : goal.returns
 returns c =
     let a = c.args in
     let l = c.loop-i in
-    sym (ap (field_of (λ _. a.n) (λ _. moved a.c))
+    let e : a.n ≡ l.i = omega (arith, l.invariant.0, c.loop-i-test.false) in
+    ap (λ i. Got a.n (moved a.c (a.c.at + i))) e
+    ∙ sym (ap (field_of (λ _. a.n) (λ _. moved a.c))
     (is_done (name_byte_at a.s.now) a.n l.i (a.c.at + l.i) (bytes_from a.s.now l.i a.c.at) l.invariant.1 c.loop-i-test.false))

@@ -9,6 +9,3 @@ use Rattle.sheet.proofs.names.name_bytes.Given as goal
 
 abbrev pub invariant-loop-i : goal.invariant-loop-i
 invariant-loop-i l = (l.i ≤ l.n) × (times l.n [] (name_byte_at l.s) l.from ≡ times (l.n - l.i) (bytes_from l.s l.i l.from) (name_byte_at l.s) (l.from + l.i))
-
-abbrev pub decreases-loop-i : goal.decreases-loop-i
-decreases-loop-i l = l.n - l.i

@@ -7,6 +7,3 @@ use Rattle.sheet.proofs.names.repeated.Given as goal
 
 abbrev pub invariant-loop-i : goal.invariant-loop-i
 invariant-loop-i l = (l.i ≤ l.n) × (after_names l.s (l.n - l.i) l.p ≤ l.q) × (found l.s l.n l.q 0 l.from ≡ found l.s l.n l.q l.i l.p)
-
-abbrev pub decreases-loop-i : goal.decreases-loop-i
-decreases-loop-i l = l.n - l.i
