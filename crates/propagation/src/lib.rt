@@ -20,7 +20,7 @@ use guess::outline::Outline;
 use sets::{Set, full, meets, size, subset};
 
 // The sets T and F.
-#[derive(Clone, Copy)]
+#[derive(Clone, Copy, PartialEq, Eq, Debug)]
 pub struct Pair {
     pub t: u16,
     pub f: u16,
@@ -94,11 +94,9 @@ fn pass(program: &[u16], rules: usize, atoms: usize, pair: Pair) -> Pair
     let all = full(atoms as u16);
     let mut t = pair.t;
     let mut kept = 0;
-    let mut j = 0;
-    while j < rules {
-        t = t | entering(program, j, pair);
-        kept = kept | supported(program, j, pair);
-        j += 1;
+    for j in 0..rules {
+        t |= entering(program, j, pair);
+        kept |= supported(program, j, pair);
     }
     let f = pair.f | all.minus(kept);
     Pair {
@@ -113,16 +111,12 @@ pub fn propagated(program: &[u16], rules: usize, atoms: usize) -> Pair
     ensures { LeastClosed atoms (program_in program.now rules) (pair_from result) }
 {
     let mut pair = Pair { t: 0, f: 0 };
-    let mut i = 0;
-    while i < 2 * atoms {
+    for _ in 0..2 * atoms {
         let next = pass(program, rules, atoms, pair);
-        let same_t = next.t == pair.t;
-        let same_f = next.f == pair.f;
-        if same_t & same_f {
+        if next == pair {
             return pair;
         }
         pair = next;
-        i += 1;
     }
     pair
 }
@@ -132,13 +126,11 @@ fn empty_head(program: &[u16], rules: usize, pair: Pair) -> bool
     requires { 4 * rules ≤ length program.now }
     ensures { Decides (EmptyHead (program_in program.now rules) (pair_from pair)) result }
 {
-    let mut j = 0;
-    while j < rules {
+    for j in 0..rules {
         let empty = head(program, j) == 0;
         if sure(program, j, pair) & empty {
             return true;
         }
-        j += 1;
     }
     false
 }

@@ -11,7 +11,7 @@ use Rattle.propagation.proofs.Heads.{heads_first, heads_next, head_found}
 use Rattle.propagation.proofs.empty_head.Goals as goal
 
 pub loop-j-init : goal.loop-j-init
-loop-j-init c = let a = c.args in (omega arith, heads_first a.program.now (pair_from a.pair))
+loop-j-init c = let a = c.args in heads_first a.program.now (pair_from a.pair)
 
 pub returns-then-sure-empty : goal.returns-then-sure-empty
 returns-then-sure-empty c =
@@ -24,11 +24,11 @@ loop-j-preserved c =
     let a = c.args in
     let l = c.loop-j in
     let e = ap₂ (λ p q. p && eqb q 0) c.sure.ensures c.head-empty.ensures in
-    (omega arith, heads_next a.program.now (pair_from a.pair) l.j l.invariant.1 (sym e ∙ c.if-sure-empty.false))
+    heads_next a.program.now (pair_from a.pair) l.j l.invariant (sym e ∙ c.if-sure-empty.false)
 
 pub returns : goal.returns
 returns c =
     let a = c.args in
     let l = c.loop-j in
     let e : l.j ≡ a.rules = omega arith in
-    dec_false (subst (λ n. EmptyHead (program_in a.program.now n) (pair_from a.pair) → ⊥) e l.invariant.1)
+    dec_false (subst (λ n. EmptyHead (program_in a.program.now n) (pair_from a.pair) → ⊥) e l.invariant)

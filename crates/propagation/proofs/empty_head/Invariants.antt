@@ -1,12 +1,8 @@
 -- `propagation::empty_head` meets its contract. The loop has passed no sure rule with an empty head. Assumes nothing.
-use Prim.Native.Nat.{◌-◌, ◌≤◌}
 use Rattle.semantics.specs.Words.{program_in}
 use Rattle.semantics.specs.Theorems.Contradicted.{EmptyHead}
 use Rattle.propagation.specs.Pairs.{pair_from}
 use Rattle.propagation.proofs.empty_head.Given as goal
 
 abbrev pub invariant-loop-j : goal.invariant-loop-j
-invariant-loop-j l = (l.j ≤ l.rules) × (EmptyHead (program_in l.program l.j) (pair_from l.pair) → ⊥)
-
-abbrev pub decreases-loop-j : goal.decreases-loop-j
-decreases-loop-j l = l.rules - l.j
+invariant-loop-j l = EmptyHead (program_in l.program l.j) (pair_from l.pair) → ⊥

@@ -6,18 +6,18 @@ use Rattle.propagation.proofs.Passes.{Passed, passed_none, passed-more, passed_a
 use Rattle.propagation.proofs.pass.Goals as goal
 
 pub loop-j-init : goal.loop-j-init
-loop-j-init c = let a = c.args in (omega arith, passed_none a.program.now (pair_from a.pair))
+loop-j-init c = let a = c.args in passed_none a.program.now (pair_from a.pair)
 
 pub loop-j-preserved : goal.loop-j-preserved
 loop-j-preserved c =
     let a = c.args in
     let l = c.loop-j in
-    (omega arith, passed-more a.program.now (pair_from a.pair) l.j l.invariant.1 c.entering-t.ensures c.supported-kept.ensures)
+    passed-more a.program.now (pair_from a.pair) l.j l.invariant c.entering-t.ensures c.supported-kept.ensures
 
 pub returns : goal.returns
 returns c =
     let a = c.args in
     let l = c.loop-j in
     let e : l.j ≡ a.rules = omega arith in
-    let passed = subst (λ n. Passed a.program.now (pair_from a.pair) n l.t l.kept) e l.invariant.1 in
+    let passed = subst (λ n. Passed a.program.now (pair_from a.pair) n l.t l.kept) e l.invariant in
     passed_all a.program.now (pair_from a.pair) a.atoms a.rules passed c.full-all.ensures c.minus.ensures
