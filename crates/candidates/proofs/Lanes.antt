@@ -16,10 +16,10 @@ use Rattle.lanes.specs.Lanes.{Lanes, lanes_self, lanes_iff, lanes_minus}
 use Rattle.lanes.specs.Cube.{InCube, having}
 use Rattle.gather.specs.declared.digest.Digest.{Digest}
 use Rattle.gather.specs.Digests.{digest_in}
-use Rattle.candidates.specs.Rules.{Fails, Supports, NoneFails, SupportAdded, SupportsIn, Supported}
+use Rattle.candidates.specs.Rules.{Supports, NoneFails, SupportAdded, SupportsIn, Supported}
 
 -- ---- the lanes in which none of the first n rules fails
-module _ (digests : List ℕ) (w x : ℕ) where
+module _ (digests : List Digest) (w x : ℕ) where
   abbrev pub Left : (n left : ℕ) → Type 0
   Left n left = Lanes (λ b. (b ∈ x) × NoneFails digests n (64 * w + b)) left
 
@@ -27,18 +27,21 @@ module _ (digests : List ℕ) (w x : ℕ) where
   none_yet = lanes_iff (λ b l. (λ m. (m, record { rule = λ j k. absurd (not-suc-le-zero k) }), λ p. p.0)) lanes_self
 
   -- one rule more: one without K and M, or another
-  module _ (n : ℕ) {left : ℕ} (p : Left n left) {d : Digest} (is : d ≡ digest_in digests n) where
+  module _ (n : ℕ) {left : ℕ} (p : Left n left) where
+    abbrev d : Digest
+    d = digest_in digests n
+
     pub rule_struck : {y : ℕ} → d.barred ∪ d.asked ≡ ∅ → Lanes (λ b. InCube (d.nots ∪ d.head) d.body (64 * w + b)) y → Left (n + 1) (left ∖ y)
     rule_struck e c =
         lanes_iff (λ b l. (
-          λ q. (q.0.0, record { rule = below_more _ n q.0.1.rule (λ f. q.1 (subst (λ z. Fails z (64 * w + b)) (sym is) f).fails) }),
-          λ q. ((q.0, record { rule = λ j k. q.1.rule j (omega arith) }), λ f. q.1.rule n (omega arith) (subst (λ z. Fails z (64 * w + b)) is (record { objective = e; fails = f }))),
+          λ q. (q.0.0, record { rule = below_more _ n q.0.1.rule (λ f. q.1 f.fails) }),
+          λ q. ((q.0, record { rule = λ j k. q.1.rule j (omega arith) }), λ f. q.1.rule n (omega arith) (record { objective = e; fails = f })),
         )) (lanes_minus p c)
 
     pub rule-passed : (d.barred ∪ d.asked ≡ ∅ → ⊥) → Left (n + 1) left
     rule-passed e =
         lanes_iff (λ b l. (
-          λ q. (q.0, record { rule = below_more _ n q.1.rule (λ f. e (subst (λ z. Fails z (64 * w + b)) (sym is) f).objective) }),
+          λ q. (q.0, record { rule = below_more _ n q.1.rule (λ f. e f.objective) }),
           λ q. (q.0, record { rule = λ j k. q.1.rule j (omega arith) }),
         )) p
 
@@ -72,14 +75,14 @@ module _ (d : Digest) (w : ℕ) (by : List ℕ) where
   all_added e s = record { kept = s.kept; added = λ {a} l u. s.added l (λ m. ∈-∅ (subst (λ z. a ∈ z) e m)) u }
 
 -- ---- those that the first n rules support
-pub none_in : (digests : List ℕ) (w : ℕ) (by : List ℕ) → SupportsIn digests 0 w by
+pub none_in : (digests : List Digest) (w : ℕ) (by : List ℕ) → SupportsIn digests 0 w by
 none_in digests w by = record { rule = λ k. absurd (not-suc-le-zero k) }
 
-pub rule_in_lem : {digests : List ℕ} {n w : ℕ} {by after : List ℕ} {d : Digest} → SupportsIn digests n w by → d ≡ digest_in digests n → SupportAdded d w by after
+pub rule_in_lem : {digests : List Digest} {n w : ℕ} {by after : List ℕ} → SupportsIn digests n w by → SupportAdded (digest_in digests n) w by after
     → SupportsIn digests (n + 1) w after
-rule_in_lem {digests} {n} {w} {after = after} s is t = record {
+rule_in_lem {digests} {n} {w} {after = after} s t = record {
   rule = λ {j} {a} {b} k l u.
-      ⊎_elim (λ z. t.added l (subst (λ y. Supports y (64 * w + b) a) (sym (is ∙ rw z refl)) u)) (λ z. t.kept a (s.rule (omega arith) l u)) (decided (dec_eq j n));
+      ⊎_elim (λ z. t.added l (subst (λ y. Supports y (64 * w + b) a) (ap (digest_in digests) z) u)) (λ z. t.kept a (s.rule (omega arith) l u)) (decided (dec_eq j n));
 }
 
 -- ---- the lanes in which the first n atoms are supported

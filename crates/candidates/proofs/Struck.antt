@@ -3,7 +3,8 @@ use Prim.Native.Nat.{ℕ, ◌+◌, ◌*◌, ◌^◌, ◌<◌}
 use mathlib.Core.Path.{◌≡◌, refl, sym, ap, ◌∙◌, subst}
 use mathlib.Core.List.{List}
 use mathlib.Core.Logic.{inl, inr, ⊎_elim}
-use lib.ListN.{get_or}
+use native.Mathlib.Omega.{arith}
+use lib.ListN.{length, get_or}
 use Rattle.sets.specs.Decides.{Decides, is_true, is_false, decided, dec_iff, dec_and, dec_not}
 use Rattle.sets.specs.Lists.{◌among◌}
 use Rattle.sets.specs.Sets.{◌∈◌, Meets, ◌∪◌, ◌∖◌, ∅, single}
@@ -21,6 +22,7 @@ use Rattle.guess.specs.Programs.{unmasked_in, Outlines}
 use Rattle.guess.specs.Numbered.{rules_of, rule_there, rule_number, masks_below}
 use Rattle.lanes.specs.Lanes.{Lanes}
 use Rattle.lanes.specs.Cube.{InCube}
+use Rattle.gather.specs.declared.digest.Digest.{Digest}
 use Rattle.gather.specs.Digests.{digest_of, digest_in, Digested}
 use Rattle.gather.specs.Gathers.{at_set}
 use Rattle.candidates.specs.Rules.{Fails, Supports, NoneFails, SupportsIn, Supported}
@@ -42,7 +44,7 @@ apart_right x y i f m = f (record { common = m.common; left = (∈-∪ m.common 
 dec_allowed : (ins outs i : ℕ) → Decides (InCube outs ins i) (allowed ins outs i)
 dec_allowed ins outs i = dec_iff (λ q. record { apart = q.1; within = q.0 }, λ c. (c.within, c.apart)) (dec_and (dec_⊆ ins i) (dec_not (dec_meets outs i)))
 
-module _ {x : Outline} {words digests : List ℕ} (o : Outlines x words) (d : Digested x words digests) where
+module _ {x : Outline} {words : List ℕ} {digests : List Digest} (o : Outlines x words) (d : Digested x words digests) where
   abbrev s : Setting
   s = unmasked_in x words
 
@@ -55,8 +57,8 @@ module _ {x : Outline} {words digests : List ℕ} (o : Outlines x words) (d : Di
 
   module _ (i : ℕ) (fits : i < 2 ^ x.atoms) {g : ℕ} (t : StableBy (at_set x words i) i g) where
     -- no rule without K and M fails in a stable set
-    none_fails : NoneFails digests x.rules i
-    none_fails = record { rule = λ j h f. fails h (subst (λ z. Fails z i) (d.rule h) f) }
+    none_fails : NoneFails digests (length digests) i
+    none_fails = record { rule = λ j h f. let k : j < x.rules = omega (arith, d.stand) in fails k (subst (λ z. Fails z i) (d.rule k) f) }
       where
         fails : {j : ℕ} → j < x.rules → Fails (digest_of s (rule_of_masks (masks_in words j))) i → ⊥
         fails {j} h f =
@@ -67,12 +69,12 @@ module _ {x : Outline} {words digests : List ℕ} (o : Outlines x words) (d : Di
             failing_struck x.atoms rs i r (rule_there x words h) barred asked (plain, (apart_left q.nots q.head i f.fails.apart, not_nots)) (apart_right q.nots q.head i f.fails.apart) g t
 
     -- and each of its atoms has a rule that supports it
-    all_supported : {w b : ℕ} {by : List ℕ} → i ≡ 64 * w + b → b < 64 → SupportsIn digests x.rules w by → (n : ℕ) → Supported by n i b
+    all_supported : {w b : ℕ} {by : List ℕ} → i ≡ 64 * w + b → b < 64 → SupportsIn digests (length digests) w by → (n : ℕ) → Supported by n i b
     all_supported {w} {b} {by} e l u n = record {
       atom = λ a k m. ⊎_elim (λ h. h) (λ h. absurd (unsupported_struck x.atoms rs i (masks_below o) fits m (λ r c body plain head alone apart.
           let q = r.objective in
           let (j, here, is) = number c in
-          h (u.rule here l (subst (λ z. Supports (digest_in digests j) z a) e (subst (λ z. Supports z i a) (sym is) record {
+          h (u.rule (omega (arith, here, d.stand)) l (subst (λ z. Supports (digest_in digests j) z a) e (subst (λ z. Supports z i a) (sym is) record {
             atom = (∈-∖ a q.head _).1 (head, apart);
             alone = record {
               apart = apart_∪ q.nots (q.head ∖ single a) i body.1.0 alone;
@@ -95,11 +97,11 @@ module _ {x : Outline} {words digests : List ℕ} (o : Outlines x words) (d : Di
     pub none_allowed : allow ≡ 0 → Candidates x words w ∅
     none_allowed e = left (λ b l m. absurd (∈-∅ m)) (λ b l k m g t. subst (λ z. b ∈ z) e m)
 
-    module _ {models : ℕ} (q : Lanes (λ b. (b ∈ allow) × NoneFails digests x.rules (64 * w + b)) models) where
+    module _ {models : ℕ} (q : Lanes (λ b. (b ∈ allow) × NoneFails digests (length digests) (64 * w + b)) models) where
       pub none_models : models ≡ 0 → Candidates x words w ∅
       none_models e = left (λ b l m. absurd (∈-∅ m)) (λ b l k m g t. subst (λ z. b ∈ z) e ((q.lane l).1 (m, none_fails (64 * w + b) k t)))
 
-      pub supported_left : {by : List ℕ} {r : ℕ} → SupportsIn digests x.rules w by
+      pub supported_left : {by : List ℕ} {r : ℕ} → SupportsIn digests (length digests) w by
           → Lanes (λ b. (b ∈ models) × Supported by x.atoms (64 * w + b) b) r → Candidates x words w r
       supported_left u v =
           left (λ b l m. ((q.lane l).0 ((v.lane l).0 m).0).0)

@@ -16,7 +16,7 @@ pub record Supports (d : Digest) (i a : ℕ) : Type 0 where
   pub alone : InCube (d.nots ∪ (d.head ∖ single a)) (d.body ∪ d.plain ∪ single a) i
 
 -- none of the first n rules fails in i
-pub record NoneFails (digests : List ℕ) (n i : ℕ) : Type 0 where
+pub record NoneFails (digests : List Digest) (n i : ℕ) : Type 0 where
   pub rule : (j : ℕ) → j < n → Fails (digest_in digests j) i → ⊥
 
 -- ---- by atom, some lanes of word w
@@ -26,7 +26,7 @@ pub record SupportAdded (d : Digest) (w : ℕ) (by after : List ℕ) : Type 0 wh
   pub added : {a b : ℕ} → b < 64 → Supports d (64 * w + b) a → b ∈ get_or after a 0
 
 -- among the lanes are those in which one of the first n rules supports the atom
-pub record SupportsIn (digests : List ℕ) (n w : ℕ) (by : List ℕ) : Type 0 where
+pub record SupportsIn (digests : List Digest) (n w : ℕ) (by : List ℕ) : Type 0 where
   pub rule : {j a b : ℕ} → j < n → b < 64 → Supports (digest_in digests j) (64 * w + b) a → b ∈ get_or by a 0
 
 -- lane b is there for each atom of i below n

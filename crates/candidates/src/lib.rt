@@ -3,7 +3,7 @@
 
 pub mod support;
 
-ghost use Rattle.std.specs.Prelude.{◌+◌, ◌*◌, ◌≤◌, length};
+ghost use Rattle.std.specs.Prelude.{◌+◌, ◌*◌, length};
 ghost use Rattle.sets.specs.Sets.{◌∈◌};
 ghost use Rattle.guess.specs.Programs.{Outlines};
 ghost use Rattle.lanes.specs.Lanes.{Lanes};
@@ -12,31 +12,28 @@ ghost use Rattle.gather.specs.Digests.{Digested};
 ghost use Rattle.candidates.specs.Rules.{NoneFails};
 ghost use Rattle.candidates.specs.Candidates.{Candidates};
 
-use gather::digest::digest_at;
+use gather::digest::Digest;
 use guess::outline::Outline;
 use lanes::cube::cube;
-use support::{all_supported, supported_sets};
 use sets::Set;
+use support::{all_supported, supported_sets};
 
 // The lanes, of these, of word w, less those in which a rule without K and M fails: its body holds there, and no head atom is there.
-fn objective_models(low: &[u64; 128], digests: &[u16], rules: usize, w: u16, lanes: u64) -> u64
-    requires { Table low.now × (6 * rules ≤ length digests.now) }
-    ensures { Lanes (λ b. (b ∈ lanes) × NoneFails digests.now rules (64 * w + b)) result }
+fn objective_models(low: &[u64; 128], digests: &[Digest], w: u16, lanes: u64) -> u64
+    requires { Table low.now }
+    ensures { Lanes (λ b. (b ∈ lanes) × NoneFails digests.now (length digests.now) (64 * w + b)) result }
 {
     let mut left = lanes;
-    let mut j = 0;
-    while j < rules {
-        let r = digest_at(digests, j);
+    for &r in digests {
         if r.barred | r.asked == 0 {
             left = left.minus(cube(low, r.nots | r.head, r.body, w));
         }
-        j += 1;
     }
     left
 }
 
 // The lanes of word w that the day's masks allow, less those in which a rule without K and M fails and those with an atom that no rule supports.
-pub fn candidates(low: &[u64; 128], words: &[u16], x: Outline, digests: &[u16], w: u16) -> u64
+pub fn candidates(low: &[u64; 128], words: &[u16], x: Outline, digests: &[Digest], w: u16) -> u64
     requires { Table low.now × Outlines x words.now × Digested x words.now digests.now }
     ensures { Candidates x words.now w result }
 {
@@ -44,11 +41,10 @@ pub fn candidates(low: &[u64; 128], words: &[u16], x: Outline, digests: &[u16], 
     if allowed == 0 {
         return 0;
     }
-    let models = objective_models(low, digests, x.rules, w, allowed);
+    let models = objective_models(low, digests, w, allowed);
     if models == 0 {
         return 0;
     }
-    let mut by = [0u64; 16];
-    supported_sets(low, digests, x.rules, w, &mut by[..]);
-    all_supported(low, x.atoms, w, &by[..], models)
+    let by = supported_sets(low, digests, w);
+    all_supported(low, x.atoms, w, &by, models)
 }

@@ -7,56 +7,46 @@ ghost use Rattle.lanes.specs.Lanes.{Lanes};
 ghost use Rattle.lanes.specs.Cube.{Table};
 ghost use Rattle.candidates.specs.Rules.{SupportAdded, SupportsIn, Supported};
 
-use gather::digest::{Digest, digest_at};
+use gather::digest::Digest;
 use lanes::cube::cube;
 use sets::{Set, power};
 
 // Adds to the words of the atoms the lanes of word w in which the rule supports them.
-fn support_by(low: &[u64; 128], r: Digest, w: u16, by: &mut [u64])
-    requires { Table low.now × (16 ≤ length by.old) }
-    ensures by_len_unchanged { length by.new ≡ length by.old }
-    ensures support_added { SupportAdded r w by.old by.new }
+fn support_by(low: &[u64; 128], r: Digest, w: u16, by: &mut [u64; 16])
+    requires { Table low.now }
+    ensures { SupportAdded r w by.old by.new }
 {
     let mut rest = r.head.minus(r.plain);
     while rest > 0 {
         let a = rest.first();
         let one = power(a as u16);
-        let sets = cube(
-            low,
-            r.nots | r.head.minus(one),
-            r.body | r.plain | one,
-            w,
-        );
-        by[a] = by[a] | sets;
-        rest = rest & (rest - 1);
+        let sets = cube(low, r.nots | r.head.minus(one), r.body | r.plain | one, w);
+        by[a] |= sets;
+        rest &= rest - 1;
     }
 }
 
-// The same for all rules: each lane in which one of them supports an atom is in the atom's word then.
-pub fn supported_sets(low: &[u64; 128], digests: &[u16], rules: usize, w: u16, by: &mut [u64])
-    requires { Table low.now × (6 * rules ≤ length digests.now) × (16 ≤ length by.old) }
-    ensures by_len_unchanged { length by.new ≡ length by.old }
-    ensures supports_in { SupportsIn digests.now rules w by.new }
+// The same of all rules: each lane in which one of them supports an atom is in the atom's word.
+pub fn supported_sets(low: &[u64; 128], digests: &[Digest], w: u16) -> [u64; 16]
+    requires { Table low.now }
+    ensures { SupportsIn digests.now (length digests.now) w result }
 {
-    let mut j = 0;
-    while j < rules {
-        let r = digest_at(digests, j);
-        support_by(low, r, w, by);
-        j += 1;
+    let mut by = [0u64; 16];
+    for &r in digests {
+        support_by(low, r, w, &mut by);
     }
+    by
 }
 
 // The lanes, of these, of word w that are in the word of each of their atoms.
-pub fn all_supported(low: &[u64; 128], atoms: usize, w: u16, by: &[u64], lanes: u64) -> u64
-    requires { Table low.now × (atoms ≤ most_atoms) × (atoms ≤ length by.now) }
+pub fn all_supported(low: &[u64; 128], atoms: usize, w: u16, by: &[u64; 16], lanes: u64) -> u64
+    requires { Table low.now × (atoms ≤ most_atoms) }
     ensures { Lanes (λ b. (b ∈ lanes) × Supported by.now atoms (64 * w + b) b) result }
 {
     let mut left = lanes;
-    let mut a = 0;
-    while a < atoms {
+    for a in 0..atoms {
         let having = cube(low, 0, power(a as u16), w);
         left = left.minus(having.minus(by[a]));
-        a += 1;
     }
     left
 }

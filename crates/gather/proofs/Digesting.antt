@@ -1,42 +1,44 @@
 -- The digest of a rule, by its masks; and of the first rules. Assumes nothing.
-use Prim.Native.Nat.{ℕ, ◌+◌, ◌*◌, ◌<◌}
+use Prim.Native.Nat.{ℕ, ◌+◌, ◌*◌, ◌≤◌, ◌<◌}
 use mathlib.Core.Path.{◌≡◌, sym, ap₂, ◌∙◌}
 use mathlib.Core.List.{List, map}
 use mathlib.Core.Logic.{⊎_elim}
 use native.Mathlib.Omega.{arith}
-use lib.ListN.{take, get_or}
+use lib.ListN.{length, take, get_or, set}
+use lib.Seq.{length-take-le, get_or-take, get_or-set_same, get_or-set_other}
 use Rattle.sets.specs.Decides.{decided, dec_eq}
 use Rattle.sets.specs.Lists.{get_or-up_to}
 use Rattle.sets.specs.Sets.{◌∪◌, ◌∖◌, full}
 use Rattle.semantics.specs.Definitions.Rules.{EpistemicRule, K, not_k, M, not_m}
 use Rattle.semantics.specs.Definitions.Sheet.{rule_of_masks}
 use Rattle.semantics.specs.Definitions.Setting.{Setting}
-use Rattle.semantics.specs.Words.{mask_in, masks_in, rules_in, word_stays}
+use Rattle.semantics.specs.Words.{mask_in, masks_in, rules_in}
 use Rattle.semantics.proofs.Theorems.AtSet.{barred-found, asked-found}
 use Rattle.guess.specs.declared.outline.Outline.{Outline}
 use Rattle.guess.specs.Programs.{unmasked_in, Outlines}
 use Rattle.guess.specs.Negations.{found_by}
 use Rattle.guess.specs.Numbered.{found_is}
 use Rattle.gather.specs.declared.digest.Digest.{Digest}
-use Rattle.gather.specs.Digests.{digest_of, digest_in}
+use Rattle.gather.specs.Digests.{digest_of, digest_in, Digested}
 
 -- ---- so many digests are written
-pub record UpTo (x : Outline) (words digests : List ℕ) (n : ℕ) : Type 0 where
+pub record UpTo (x : Outline) (words : List ℕ) (digests : List Digest) (n : ℕ) : Type 0 where
   pub rule : {j : ℕ} → j < n → digest_in digests j ≡ digest_of (unmasked_in x words) (rule_of_masks (masks_in words j))
 
-pub none_yet : (x : Outline) (words digests : List ℕ) → UpTo x words digests 0
+pub none_yet : (x : Outline) (words : List ℕ) (digests : List Digest) → UpTo x words digests 0
 none_yet x words digests = record { rule = λ h. absurd (omega arith) }
 
-stays : (a b : List ℕ) (n : ℕ) → take (6 * n) a ≡ take (6 * n) b → (j : ℕ) → j < n → digest_in a j ≡ digest_in b j
-stays a b n e j h = cc (word (6 * j) (omega arith), word (6 * j + 1) (omega arith), word (6 * j + 2) (omega arith), word (6 * j + 3) (omega arith), word (6 * j + 4) (omega arith), word (6 * j + 5) (omega arith))
-  where
-    word : (i : ℕ) → i < 6 * n → get_or a i 0 ≡ get_or b i 0
-    word i l = word_stays (6 * n) a b e i l
+pub one_more : {x : Outline} {words : List ℕ} {a : List Digest} {n : ℕ} {d : Digest} → UpTo x words a n → n < length a
+    → d ≡ digest_of (unmasked_in x words) (rule_of_masks (masks_in words n)) → UpTo x words (set a n d) (n + 1)
+one_more {x} {words} {a} {n} {d} f h right = record {
+  rule = λ {j} k. ⊎_elim (λ q. rw q (get_or-set_same a n d _ h ∙ right)) (λ q. get_or-set_other a n j d _ q ∙ f.rule (omega arith)) (decided (dec_eq j n));
+}
 
-pub one_more : {x : Outline} {words a b : List ℕ} {n : ℕ} {d : Digest} → UpTo x words a n → take (6 * n) b ≡ take (6 * n) a → digest_in b n ≡ d
-    → d ≡ digest_of (unmasked_in x words) (rule_of_masks (masks_in words n)) → UpTo x words b (n + 1)
-one_more {x} {words} {a} {b} {n} f e is right = record {
-  rule = λ {j} h. ⊎_elim (λ q. rw q (is ∙ right)) (λ q. stays b a n e j (omega arith) ∙ f.rule (omega arith)) (decided (dec_eq j n));
+-- as many as there are rules
+pub all_written : {x : Outline} {words : List ℕ} {a : List Digest} → UpTo x words a x.rules → x.rules ≤ length a → Digested x words (take x.rules a)
+all_written {x} {words} {a} f h = record {
+  stand = length-take-le x.rules a h;
+  rule = λ {j} k. get_or-take x.rules a j _ k ∙ f.rule k;
 }
 
 -- ---- one digest

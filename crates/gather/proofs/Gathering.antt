@@ -67,17 +67,19 @@ module _ (x : Outline) (words : List ℕ) (i : ℕ) where
       ∙ gathered-more s i (first j) (rule_of j)
 
   -- ---- one rule, by its digest
-  module _ {digests : List ℕ} (d : Digested x words digests) {needed j : ℕ} (is : needed ≡ need s i) (h : j < x.rules) where
-    pub gathers_is : {r : Digest} {b : Bool} → r ≡ digest_in digests j → b ≡ (r.body ⊆? i) && not (r.nots meets? i) && not (r.barred meets? needed)
-        → b ≡ gathers s i (rule_of j)
-    gathers_is e f = f ∙ ap₂ asks (e ∙ d.rule h) is
+  module _ {digests : List Digest} (d : Digested x words digests) {needed j : ℕ} (is : needed ≡ need s i) (h : j < x.rules) where
+    abbrev r : Digest
+    r = digest_in digests j
+
+    pub gathers_is : {b : Bool} → b ≡ (r.body ⊆? i) && not (r.nots meets? i) && not (r.barred meets? needed) → b ≡ gathers s i (rule_of j)
+    gathers_is f = f ∙ ap₂ asks (d.rule h) is
       where
         asks : Digest → ℕ → Bool
         asks z q = (z.body ⊆? i) && not (z.nots meets? i) && not (z.barred meets? q)
 
-    pub rule_is : {r : Digest} {e : AtSet} → r ≡ digest_in digests j
-        → e ≡ record { head = r.head ∩ i; plain = r.plain; misses = r.barred; holds = r.asked ∖ needed } → rule_from e ≡ gather_rule s i (rule_of j)
-    rule_is f e = ap rule_from e ∙ ap₂ rule_by (f ∙ d.rule h) is
+    pub rule_is : {e : AtSet} → e ≡ record { head = r.head ∩ i; plain = r.plain; misses = r.barred; holds = r.asked ∖ needed }
+        → rule_from e ≡ gather_rule s i (rule_of j)
+    rule_is e = ap rule_from e ∙ ap₂ rule_by (d.rule h) is
       where
         rule_by : Digest → ℕ → GatheredRule
         rule_by z q = record { head = z.head ∩ i; plain = z.plain; misses = z.barred; holds = z.asked ∖ q }

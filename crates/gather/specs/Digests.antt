@@ -1,6 +1,6 @@
 -- The digest of the rules, as the code has it. Assumes nothing.
-use Rattle.std.specs.Prelude.{ℕ, ◌+◌, ◌*◌, ◌≤◌, ◌<◌, ◌≡◌, List, length, get_or}
-use Rattle.sets.specs.Sets.{◌∪◌}
+use Rattle.std.specs.Prelude.{ℕ, ◌<◌, ◌≡◌, List, length, slice_index_or}
+use Rattle.sets.specs.Sets.{◌∪◌, ∅}
 use Rattle.semantics.specs.Definitions.Rules.{EpistemicRule}
 use Rattle.semantics.specs.Definitions.Sheet.{rule_of_masks}
 use Rattle.semantics.specs.Definitions.Setting.{Setting}
@@ -21,18 +21,11 @@ digest_of s r = record {
   asked = asked s r;
 }
 
--- that of rule j, in words, six a rule
-abbrev pub digest_in : List ℕ → ℕ → Digest
-digest_in digests j = record {
-  head = get_or digests (6 * j) 0;
-  body = get_or digests (6 * j + 1) 0;
-  nots = get_or digests (6 * j + 2) 0;
-  plain = get_or digests (6 * j + 3) 0;
-  barred = get_or digests (6 * j + 4) 0;
-  asked = get_or digests (6 * j + 5) 0;
-}
+-- that of rule j
+abbrev pub digest_in : List Digest → ℕ → Digest
+digest_in digests j = slice_index_or digests j (record { head = ∅; body = ∅; nots = ∅; plain = ∅; barred = ∅; asked = ∅ })
 
 -- of every rule in the words
-pub record Digested (x : Outline) (words digests : List ℕ) : Type 0 where
-  pub stand : 6 * x.rules ≤ length digests
+pub record Digested (x : Outline) (words : List ℕ) (digests : List Digest) : Type 0 where
+  pub stand : length digests ≡ x.rules
   pub rule : {j : ℕ} → j < x.rules → digest_in digests j ≡ digest_of (unmasked_in x words) (rule_of_masks (masks_in words j))

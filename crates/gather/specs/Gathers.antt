@@ -1,5 +1,5 @@
 -- The rules at a set of atoms, as the code has them: four words a rule. Assumes nothing.
-use Rattle.std.specs.Prelude.{ℕ, ◌+◌, ◌*◌, ◌≤◌, ◌≡◌, List, map, get_or}
+use Rattle.std.specs.Prelude.{ℕ, ◌+◌, ◌*◌, ◌≤◌, ◌≡◌, Option, Some, None, List, map, get_or}
 use Rattle.sets.specs.Lists.{up_to}
 use Rattle.semantics.specs.Definitions.Sheet.{rule_of_masks}
 use Rattle.semantics.specs.Words.{rules_in}
@@ -7,8 +7,6 @@ use Rattle.semantics.specs.AtSet.{GatheredRule, gathered_rules, StableBy}
 use Rattle.guess.specs.declared.outline.Outline.{Outline}
 use Rattle.guess.specs.Programs.{unmasked_in}
 use Rattle.gather.specs.declared.AtSet.{AtSet}
-use Rattle.gather.specs.declared.Gathered.{Gathered}
-use Rattle.gather.specs.declared.Gathered.TheVariants.{Fails, Rules}
 
 -- the rule that the code has
 abbrev pub rule_from : AtSet → GatheredRule
@@ -33,6 +31,6 @@ module _ (x : Outline) (words : List ℕ) (i : ℕ) where
   at_set = gathered_rules (unmasked_in x words) (map rule_of_masks (rules_in words x.rules)) i
 
   -- no guess makes the set stable; or so many rules stand in the room, and they are those
-  abbrev pub GatheredAt : (room : List ℕ) → Gathered → Type 0
-  GatheredAt room Fails = (g : ℕ) → StableBy at_set i g → ⊥
-  GatheredAt room (Rules n) = (n ≤ x.rules) × (rules_at room n ≡ at_set)
+  abbrev pub GatheredAt : (room : List ℕ) → Option ℕ → Type 0
+  GatheredAt room None = (g : ℕ) → StableBy at_set i g → ⊥
+  GatheredAt room (Some n) = (n ≤ x.rules) × (rules_at room n ≡ at_set)

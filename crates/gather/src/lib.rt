@@ -11,20 +11,13 @@ ghost use Rattle.guess.specs.Programs.{unmasked_in, Outlines};
 ghost use Rattle.gather.specs.Digests.{Digested};
 ghost use Rattle.gather.specs.Gathers.{GatheredAt, rule_at, rule_from};
 
-use digest::{Digest, digest_at};
+use digest::Digest;
 use guess::outline::Outline;
 use sets::{Set, has_and_lacks, meets, size, subset};
 
-// What is gathered at a set: no guess makes it stable; or so many rules.
-#[derive(Clone, Copy)]
-pub enum Gathered {
-    Fails,
-    Rules(usize),
-}
-
 // A rule that a guess can switch on at a set: its head within the set, its plain atoms, the negations that such a guess misses and those that it
 // holds.
-#[derive(Clone, Copy)]
+#[derive(Clone, Copy, PartialEq, Eq, Debug)]
 pub struct AtSet {
     pub head: u16,
     pub plain: u16,
@@ -77,38 +70,35 @@ fn put(e: AtSet, n: usize, room: &mut [u16])
     room[at + 3] = e.holds;
 }
 
-// The rules that a guess can switch on at the set i, which needs these negations. Where one that every guess switches on has no head atom in the
-// set, or an atom of the set is supported by none of them, no guess makes it stable.
+// Gathers the rules that a guess can switch on at the set i, which needs these negations, and says how many they are. None where one that every
+// guess switches on has no head atom in the set, or an atom of the set is supported by none of them: then no guess makes the set stable.
 pub fn gather(
     words: &[u16],
     x: Outline,
-    digests: &[u16],
+    digests: &[Digest],
     i: u16,
     needed: u16,
     room: &mut [u16],
-) -> Gathered
+) -> Option<usize>
     requires { Outlines x words.now × Digested x words.now digests.now × (needed ≡ need (unmasked_in x words.now) i) × (4 * x.rules ≤ length room.old) }
     ensures room_len_unchanged { length room.new ≡ length room.old }
     ensures gathered_at { GatheredAt x words.now i room.new result }
 {
     let mut atoms = 0;
     let mut n = 0;
-    let mut j = 0;
-    while j < x.rules {
-        let r = digest_at(digests, j);
+    for &r in digests {
         if switches(r, i, needed) {
             let e = at_set(r, i, needed);
             if e.head | e.misses | e.holds == 0 {
-                return Gathered::Fails;
+                return None;
             }
-            atoms = atoms | supported(e);
+            atoms |= supported(e);
             put(e, n, &mut room[..]);
             n += 1;
         }
-        j += 1;
     }
     if subset(i, atoms) {
-        return Gathered::Rules(n);
+        return Some(n);
     }
-    Gathered::Fails
+    None
 }

@@ -9,4 +9,4 @@ pub returns-then-models-eq0 : goal.returns-then-models-eq0
 returns-then-models-eq0 c = none_models c.requires.1 c.requires.2 c.args.w c.cube-allowed.ensures c.objective_models-models.ensures c.if-models-eq0.true
 
 pub returns : goal.returns
-returns c = supported_left c.requires.1 c.requires.2 c.args.w c.cube-allowed.ensures c.objective_models-models.ensures c.supported_sets.ensures.supports_in c.all_supported.ensures
+returns c = supported_left c.requires.1 c.requires.2 c.args.w c.cube-allowed.ensures c.objective_models-models.ensures c.supported_sets-by.ensures c.all_supported.ensures

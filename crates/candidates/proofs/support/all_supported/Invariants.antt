@@ -1,10 +1,6 @@
 -- `candidates::support::all_supported` meets its contract. Assumes nothing.
-use Prim.Native.Nat.{◌-◌, ◌≤◌}
 use Rattle.candidates.proofs.Lanes.{With}
 use Rattle.candidates.proofs.support.all_supported.Given as goal
 
 abbrev pub invariant-loop-a : goal.invariant-loop-a
-invariant-loop-a l = (l.a ≤ l.atoms) × With l.by l.w l.lanes l.a l.left
-
-abbrev pub decreases-loop-a : goal.decreases-loop-a
-decreases-loop-a l = l.atoms - l.a
+invariant-loop-a l = With l.by l.w l.lanes l.a l.left

@@ -1,14 +1,12 @@
 -- `candidates::support::support_by` meets its contract. Assumes nothing.
 use Prim.Native.Nat.{◌-◌}
-use mathlib.Core.Path.{refl}
 use native.Mathlib.Omega.{arith}
 use lib.Bits.{and_le_r}
 use Rattle.candidates.proofs.Lanes.{none-added, atom_added, all_added}
-use borrow.Author.Rules.{rules}
 use Rattle.candidates.proofs.support.support_by.Goals as goal
 
 pub loop-rest-init : goal.loop-rest-init
-loop-rest-init c = let a = c.args in (refl, none-added a.r a.w a.by.now c.minus-rest.ensures)
+loop-rest-init c = let a = c.args in none-added a.r a.w a.by.now c.minus-rest.ensures
 
 pub loop-rest-smaller : goal.loop-rest-smaller
 loop-rest-smaller c = let l = c.loop-rest in omega (arith, and_le_r l.rest (l.rest - 1))
@@ -17,13 +15,10 @@ pub loop-rest-preserved : goal.loop-rest-preserved
 loop-rest-preserved c =
     let l = c.loop-rest in
     let a = c.args in
-    (search rules, atom_added a.r a.w a.by.now l.invariant.1 c.first-a.ensures.0 (omega arith) c.power-one.ensures c.minus.ensures c.cube-sets.ensures)
+    atom_added a.r a.w a.by.now l.invariant c.first-a.ensures.0 (omega arith) c.power-one.ensures c.minus.ensures c.cube-sets.ensures
 
 pub returns : goal.returns
 returns c =
     let l = c.loop-rest in
     let a = c.args in
-    record {
-      by_len_unchanged = search rules;
-      support_added = all_added a.r a.w a.by.now (omega arith) l.invariant.1;
-    }
+    all_added a.r a.w a.by.now (omega arith) l.invariant

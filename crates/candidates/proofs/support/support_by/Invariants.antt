@@ -1,11 +1,9 @@
 -- `candidates::support::support_by` meets its contract. Assumes nothing.
-use mathlib.Core.Path.{◌≡◌}
-use lib.ListN.{length}
 use Rattle.candidates.proofs.Lanes.{AddedBut}
 use Rattle.candidates.proofs.support.support_by.Given as goal
 
 abbrev pub invariant-loop-rest : goal.invariant-loop-rest
-invariant-loop-rest l = (length l.by ≡ length l.initial.by) × AddedBut l.r l.w l.initial.by l.rest l.by
+invariant-loop-rest l = AddedBut l.r l.w l.initial.by l.rest l.by
 
 abbrev pub decreases-loop-rest : goal.decreases-loop-rest
 decreases-loop-rest l = l.rest
