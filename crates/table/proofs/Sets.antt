@@ -15,8 +15,7 @@ use Rattle.guess.specs.Negations.{found_by}
 use Rattle.guess.specs.Numbered.{found_is}
 use Rattle.lanes.specs.Cube.{InCube}
 use Rattle.lanes.specs.Stable.{StableFor}
-use Rattle.gather.specs.declared.Gathered.{Gathered}
-use Rattle.gather.specs.declared.Gathered.TheVariants.{Fails, Rules}
+use Rattle.std.specs.Prelude.{Option, Some, None}
 use Rattle.gather.specs.Gathers.{rule_at, rules_at, at_set, GatheredAt}
 
 -- ---- what the set needs, as the code finds it
@@ -57,9 +56,9 @@ pub stable-at : {room : List ℕ} {n : ℕ} {es : List GatheredRule} (i g : ℕ)
 stable-at {room} {n} i g e = subst (λ z. StableFor room n i g ↔ StableBy z i g) e (stable_in room n i g)
 
 -- ---- what was gathered
-module _ (x : Outline) (words : List ℕ) (i : ℕ) (room : List ℕ) (r : Gathered) (is : GatheredAt x words i room r) where
-  pub none-stable : r ≡ Fails → (g : ℕ) → StableBy (at_set x words i) i g → ⊥
+module _ (x : Outline) (words : List ℕ) (i : ℕ) (room : List ℕ) (r : Option ℕ) (is : GatheredAt x words i room r) where
+  pub none-stable : r ≡ None → (g : ℕ) → StableBy (at_set x words i) i g → ⊥
   none-stable e = subst (GatheredAt x words i room) e is
 
-  pub some-rules : {n : ℕ} → r ≡ Rules n → (n ≤ x.rules) × (rules_at room n ≡ at_set x words i)
+  pub some-rules : {n : ℕ} → r ≡ Some n → (n ≤ x.rules) × (rules_at room n ≡ at_set x words i)
   some-rules e = subst (GatheredAt x words i room) e is

@@ -10,8 +10,8 @@ ghost use Rattle.gather.specs.Gathers.{at_set};
 ghost use Rattle.table.specs.Tried.{Tried};
 ghost use Rattle.table.specs.Tables.{Blank, Filled};
 
-use gather::digest::digest_all;
-use gather::{Gathered, gather};
+use gather::digest::{Digest, digest_all};
+use gather::gather;
 use guess::negations::found;
 use guess::outline::Outline;
 use lanes::cube::patterns;
@@ -41,7 +41,7 @@ fn note_set(
     low: &[u64; 128],
     words: &[u16],
     x: Outline,
-    digests: &[u16],
+    digests: &[Digest],
     i: u16,
     room: &mut [u16],
     on: &mut [u64],
@@ -56,7 +56,7 @@ fn note_set(
     ensures tried { Tried (StableBy (at_set x words.now i) i) i (need (unmasked_in x words.now) i) active.old table.old active.new table.new }
 {
     let needed = found(x, i, i);
-    let Gathered::Rules(n) = gather(words, x, digests, i, needed, &mut room[..]) else {
+    let Some(n) = gather(words, x, digests, i, needed, &mut room[..]) else {
         return;
     };
     note_rules(low, &room[..], n, i, needed, on, stable, active, table);
@@ -70,8 +70,8 @@ pub fn fill(words: &[u16], x: Outline, stable: &mut [u64], active: &mut [u64], t
     ensures filled { Filled x words.now active.old active.new table.new }
 {
     let low = patterns();
-    let mut digests = [0u16; 426];
-    digest_all(words, x, &mut digests[..]);
+    let all = digest_all(words, x);
+    let digests = &all[..x.rules];
     clear(&mut table[..], 64 * active.len(), x.atoms);
     let end = power(x.atoms as u16);
     let mut room = [0u16; 284];
@@ -83,7 +83,7 @@ pub fn fill(words: &[u16], x: Outline, stable: &mut [u64], active: &mut [u64], t
                 &low,
                 words,
                 x,
-                &digests[..],
+                digests,
                 i,
                 &mut room[..],
                 &mut on[..],

@@ -17,8 +17,7 @@ use Rattle.guess.specs.Numbered.{found_is}
 use Rattle.lanes.specs.Cube.{InCube}
 use Rattle.search.specs.Smaller.{HeadsWithin}
 use Rattle.lanes.specs.Stable.{StableFor}
-use Rattle.gather.specs.declared.Gathered.{Gathered}
-use Rattle.gather.specs.declared.Gathered.TheVariants.{Fails, Rules}
+use Rattle.std.specs.Prelude.{Option, Some, None}
 use Rattle.gather.specs.Gathers.{rule_at, rules_at, at_set, GatheredAt}
 
 -- ---- what the set needs, as the code finds it
@@ -59,13 +58,13 @@ pub stable-at : {room : List ℕ} {n : ℕ} {es : List GatheredRule} (i g : ℕ)
 stable-at {room} {n} i g e = subst (λ z. StableFor room n i g ↔ StableBy z i g) e (stable_in room n i g)
 
 -- ---- what was gathered
-module _ (x : Outline) (words : List ℕ) (i : ℕ) (room : List ℕ) (r : Gathered) (is : GatheredAt x words i room r) where
-  pub none-stable : r ≡ Fails → (g : ℕ) → StableBy (at_set x words i) i g → ⊥
+module _ (x : Outline) (words : List ℕ) (i : ℕ) (room : List ℕ) (r : Option ℕ) (is : GatheredAt x words i room r) where
+  pub none-stable : r ≡ None → (g : ℕ) → StableBy (at_set x words i) i g → ⊥
   none-stable e = subst (GatheredAt x words i room) e is
 
-  pub some-rules : {n : ℕ} → r ≡ Rules n → (n ≤ x.rules) × (rules_at room n ≡ at_set x words i)
+  pub some-rules : {n : ℕ} → r ≡ Some n → (n ≤ x.rules) × (rules_at room n ≡ at_set x words i)
   some-rules e = subst (GatheredAt x words i room) e is
 
   -- their heads are within the set
-  pub heads_in : {n : ℕ} → r ≡ Rules n → HeadsWithin room n i
+  pub heads_in : {n : ℕ} → r ≡ Some n → HeadsWithin room n i
   heads_in {n} e = record { rule = λ k h. gathered_head (unmasked_in x words) i _ _ (subst (λ z. rule_at room k among z) (some-rules e).1 ((among_room room n).1 (k, h, refl))) }

@@ -11,8 +11,8 @@ ghost use Rattle.gather.specs.Gathers.{at_set};
 ghost use Rattle.verdicts.specs.Tables.{Blank, Filled};
 
 use candidates::candidates;
-use gather::digest::digest_all;
-use gather::{Gathered, gather};
+use gather::digest::{Digest, digest_all};
+use gather::gather;
 use guess::negations::found;
 use guess::outline::Outline;
 use lanes::cube::patterns;
@@ -42,7 +42,7 @@ fn note_set(
     low: &[u64; 128],
     words: &[u16],
     x: Outline,
-    digests: &[u16],
+    digests: &[Digest],
     i: u16,
     room: &mut [u16],
     on: &mut [u64],
@@ -57,7 +57,7 @@ fn note_set(
     ensures tried { Tried (StableBy (at_set x words.now i) i) i (need (unmasked_in x words.now) i) active.old table.old active.new table.new }
 {
     let needed = found(x, i, i);
-    let Gathered::Rules(n) = gather(words, x, digests, i, needed, &mut room[..]) else {
+    let Some(n) = gather(words, x, digests, i, needed, &mut room[..]) else {
         return;
     };
     note_rules(low, &room[..], n, i, needed, on, stable, active, table);
@@ -71,8 +71,8 @@ pub fn fill(words: &[u16], x: Outline, stable: &mut [u64], active: &mut [u64], t
     ensures filled { Filled x words.now active.old active.new table.new }
 {
     let low = patterns();
-    let mut digests = [0u16; 426];
-    digest_all(words, x, &mut digests[..]);
+    let all = digest_all(words, x);
+    let digests = &all[..x.rules];
     clear(&mut table[..], 64 * active.len(), x.atoms);
     let end = power(x.atoms as u16);
     let mut room = [0u16; 284];
@@ -81,14 +81,14 @@ pub fn fill(words: &[u16], x: Outline, stable: &mut [u64], active: &mut [u64], t
     let mut i = 0;
     while i != end {
         if i % 64 == 0 {
-            sets = candidates(&low, words, x, &digests[..], i / 64);
+            sets = candidates(&low, words, x, digests, i / 64);
         }
         if sets.has((i % 64) as u64) {
             note_set(
                 &low,
                 words,
                 x,
-                &digests[..],
+                digests,
                 i,
                 &mut room[..],
                 &mut on[..],

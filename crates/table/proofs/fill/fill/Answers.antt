@@ -8,9 +8,6 @@ use Rattle.table.proofs.Filling.{after_none, room_left, set_tried, set_passed, a
 use Rattle.table.proofs.fill.fill.Goals as goal
 use Rattle.table.proofs.fill.fill.Goals.{then-has_and_lacks, else-has_and_lacks}
 
-pub digest_all-requires : goal.digest_all-requires
-digest_all-requires c = (c.requires.0, omega (arith, c.requires.0.few_rules))
-
 pub overflow_mul-active : goal.overflow_mul-active
 overflow_mul-active c = omega (arith, c.requires.1)
 
@@ -35,7 +32,7 @@ note_set-requires c =
     let o = c.requires.0 in
     let table = c.clear.ensures.table_len_unchanged in
     let here : l.i < 2 ^ c.args.x.atoms = omega (arith, l.invariant.0, c.loop-i-test.true, end) in record {
-      table = (c.patterns-low.ensures, o, c.digest_all.ensures.digested, here);
+      table = (c.patterns-low.ensures, o, c.digest_all-all.ensures, here);
       rules_in_bounds = (omega (arith, l.invariant.1, o.few_rules), omega (arith, l.invariant.2, o.few_rules), omega (arith, l.invariant.3, l.invariant.5.long, c.requires.2), omega (arith, l.invariant.5.long, c.requires.1));
       active_in_bounds = (omega (arith, l.invariant.4, table, l.invariant.5.long, c.requires.3), room_left c.args.x c.args.words.now c.args.active.now l.invariant.5 (omega (arith, here, few_sets o)));
     }

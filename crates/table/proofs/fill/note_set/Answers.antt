@@ -31,7 +31,7 @@ note_rules-requires c =
     let q = c.requires.rules_in_bounds in
     let r = c.requires.active_in_bounds in
     let g = c.gather in
-    let some = some-rules a.x a.words.now a.i g.new.room g.result g.ensures.gathered_at c.in-Rules.is in
+    let some = some-rules a.x a.words.now a.i g.new.room g.result g.ensures.gathered_at c.in-Some.is in
     (p.0, omega (arith, some.0, g.ensures.room_len_unchanged, q.0), omega (arith, some.0, q.1), q.2, q.3, r.0, r.1)
 
 pub returns : goal.returns
@@ -39,7 +39,7 @@ returns c =
     let a = c.args in
     let o = c.requires.table.1 in
     let g = c.gather in
-    let some = some-rules a.x a.words.now a.i g.new.room g.result g.ensures.gathered_at c.in-Rules.is in
+    let some = some-rules a.x a.words.now a.i g.new.room g.result g.ensures.gathered_at c.in-Some.is in
     let n = c.note_rules.ensures in
     let needed = c.found-needed.ensures ∙ need_is o a.i c.requires.table.3 in
     record {
