@@ -15,8 +15,7 @@ pub fn first_short(n: usize, states: [Paused; 4], rooms: [usize; 4]) -> Refusal
     requires { (n ≤ 4) × (length states ≡ 4) × (length rooms ≡ 4) × ((q : ℕ) → q < n → (get_or states q fresh).tally.views ≤ 4096) }
     ensures { FirstShort states rooms n result }
 {
-    let mut p = 0;
-    while p < n {
+    for p in 0..n {
         let paused = states[p];
         let tally = paused.tally;
         let views = tally.views;
@@ -27,7 +26,6 @@ pub fn first_short(n: usize, states: [Paused; 4], rooms: [usize; 4]) -> Refusal
                 position: p,
             };
         }
-        p += 1;
     }
     Refusal::None
 }

@@ -36,12 +36,10 @@ pub fn read_sheets<'a>(
     ensures result_len { (length result ≡ 4) × ReadTo result words.new (a.now ∷ b.now ∷ c.now ∷ d.now ∷ []) n }
 {
     let mut sources = [Source::Refused(0, 0); 4];
-    let mut p = 0;
-    while p < n {
+    for p in 0..n {
         let sheet = pick(p, a, b, c, d);
         let source = of_day(sheet, 0, 0, &mut words[p][..]);
         sources[p] = source;
-        p += 1;
     }
     sources
 }
@@ -62,20 +60,14 @@ pub fn first_refused(n: usize, sources: [Source; 4]) -> Refusal
     requires { (n ≤ 4) × (length sources ≡ 4) }
     ensures { FirstRefused sources n result }
 {
-    let mut p = 0;
-    while p < n {
+    for p in 0..n {
         let source = sources[p];
-        match source {
-            Source::Accepted(_) => {
-                p += 1;
-            }
-            Source::Refused(number, place) => {
-                return Refusal::At {
-                    number,
-                    place,
-                    position: p,
-                };
-            }
+        if let Source::Refused(number, place) = source {
+            return Refusal::At {
+                number,
+                place,
+                position: p,
+            };
         }
     }
     Refusal::None

@@ -57,8 +57,7 @@ fn round(
 {
     let mut all = states;
     let mut left = allowed;
-    let mut p = 0;
-    while p < n {
+    for p in 0..n {
         if left == 0 {
             return all;
         }
@@ -77,7 +76,6 @@ fn round(
         let had = before.tally;
         let has = after.tally;
         left -= has.tested - had.tested;
-        p += 1;
     }
     all
 }
@@ -119,8 +117,7 @@ fn to_the_end(
     ensures result_len { (length result ≡ 4) × Idle n result × AllGo sources words.now order.now n result programs.new records.new × ((q : ℕ) → q < n → HasAt sources words.now (2 ^ most_negations) result records.new q) }
 {
     let mut all = states;
-    let mut p = 0;
-    while p < n {
+    for p in 0..n {
         let source = sources[p];
         let end = to_end(
             source,
@@ -130,7 +127,6 @@ fn to_the_end(
             &mut records[p][..],
         );
         all[p] = end;
-        p += 1;
     }
     all
 }
@@ -140,13 +136,11 @@ fn some_waits(n: usize, states: [Paused; 4]) -> bool
     requires { (n ≤ 4) × (length states ≡ 4) }
     ensures { Decides ((q : ℕ) × (q < n) × ((get_or states q fresh).waits ≡ true)) result }
 {
-    let mut p = 0;
-    while p < n {
+    for p in 0..n {
         let paused = states[p];
         if paused.waits {
             return true;
         }
-        p += 1;
     }
     false
 }

@@ -9,7 +9,7 @@ use Rattle.sharing.specs.declared.result.Shared.{Shared}
 use Rattle.sharing.specs.Handed.{four}
 use Rattle.sharing.specs.Answers.{shared}
 use Rattle.sharing.specs.Demand.{SharingDemand, sharing_demand}
-use Rattle.sharing.proofs.Called.{all_read, sheets_granted, sheets_denied, without_sheets, over-four, one_to_four}
+use Rattle.sharing.proofs.Called.{sheets_granted, sheets_denied, without_sheets, over-four, one_to_four}
 use Rattle.sharing.proofs.share.Goals as goal
 
 -- what the call ensures
@@ -36,21 +36,6 @@ returns-then-count-gt4 c =
     let is = over-four a.count sheets a.allowance (map length outs) (omega (arith, c.if-count-gt4.true)) in
     let met = called a.count sheets a.allowance _ outs _ refl refl (sym (ap carried is)) (sym (ap (λ r. lent_after r outs) is)) in
     record { result_value = met.0; od_after = met.1.0; sharing_demand = met.1.1 }
-
-pub read_sheets-sources-requires : goal.read_sheets-sources-requires
-read_sheets-sources-requires c = (omega (arith, c.if-count-gt4.false), refl)
-
-pub first_refused-refusal-requires : goal.first_refused-refusal-requires
-first_refused-refusal-requires c = (omega (arith, c.if-count-gt4.false), c.read_sheets-sources.ensures.result_len.0)
-
-pub serve-requires : goal.serve-requires
-serve-requires c =
-    let a = c.args in
-    let sheets = four a.a.now a.b.now a.c.now a.d.now in
-    let few : a.count ≤ 4 = omega (arith, c.if-count-gt4.false) in
-    let read = c.read_sheets-sources in
-    let all = c.in-None.ensures in
-    (few, read.ensures.result_len.0, read.ensures.words_len_unchanged, all_read read.result read.new.words sheets a.count few read.ensures.result_len.1 all)
 
 pub returns-in-At : goal.returns-in-At
 returns-in-At c =

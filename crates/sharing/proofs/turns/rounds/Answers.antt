@@ -21,15 +21,6 @@ below c =
     let each = b.each (omega (arith, c.loop-left-test.true)) in
     waits_below a.sources a.words.now a.order.now a.n c.requires.6 l.t l.states l.records each (c.some_waits.ensures.yes c.if-not-some_waits.false)
 
-pub to_the_end-requires : goal.to_the_end-requires
-to_the_end-requires c =
-    let pre = c.requires in
-    let first = first-fresh c.start-paused.result c.start-paused.ensures in
-    record {
-      n_bound = (pre.0, pre.1, pre.2, refl, pre.3, pre.4, pre.5);
-      all_read = (pre.6, λ q _. first q);
-    }
-
 pub returns-then-allowance-ge16384 : goal.returns-then-allowance-ge16384
 returns-then-allowance-ge16384 c =
     let a = c.args in
@@ -80,9 +71,6 @@ loop-left-init c =
       },
     )
 
-pub some_waits-requires : goal.some_waits-requires
-some_waits-requires c = (c.requires.0, c.loop-left.invariant.2.four)
-
 pub returns-then-not-some_waits : goal.returns-then-not-some_waits
 returns-then-not-some_waits c =
     let a = c.args in
@@ -120,9 +108,6 @@ tests_made-requires c =
     let d = c.round-next.ensures.rounded in
     let each = b.each (omega (arith, c.loop-left-test.true)) in
     (d.long ∙ b.four, few_all a.sources a.words.now a.order.now a.n c.requires.5 c.requires.6 c.round-next.result c.round-next.new.programs c.round-next.new.records d.go (idle_next a.sources a.words.now a.order.now a.n each d b.idle))
-
-pub overflow_sub-left : goal.overflow_sub-left
-overflow_sub-left c = omega (arith, c.tests_made.ensures, c.round-next.ensures.rounded.few, c.loop-left.invariant.2.in_all)
 
 pub loop-left-smaller : goal.loop-left-smaller
 loop-left-smaller c = omega (arith, below (goal.at.loop-left-smaller c).Else-not-some_waits)

@@ -1,5 +1,5 @@
 -- `sharing::turns::some_waits` meets its contract. Assumes nothing.
-use Prim.Native.Nat.{ℕ, ◌-◌, ◌≤◌, ◌<◌}
+use Prim.Native.Nat.{ℕ, ◌<◌}
 use mathlib.Core.Path.{◌≡◌}
 use mathlib.Core.Bool.{false}
 use lib.ListN.{get_or}
@@ -7,7 +7,4 @@ use Rattle.listing.specs.Pauses.{fresh}
 use Rattle.sharing.proofs.turns.some_waits.Given as goal
 
 abbrev pub invariant-loop-p : goal.invariant-loop-p
-invariant-loop-p l = (l.p ≤ l.n) × ((q : ℕ) → q < l.p → (get_or l.states q fresh).waits ≡ false)
-
-abbrev pub decreases-loop-p : goal.decreases-loop-p
-decreases-loop-p l = l.n - l.p
+invariant-loop-p l = ((q : ℕ) → q < l.p → (get_or l.states q fresh).waits ≡ false)

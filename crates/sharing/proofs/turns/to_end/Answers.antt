@@ -3,7 +3,7 @@ use Prim.Native.Nat.{◌^◌}
 use mathlib.Core.Path.{sym, subst}
 use Rattle.semantics.specs.Definitions.Check.{most_negations}
 use Rattle.order.specs.Ordered.{table_enumerates}
-use Rattle.sharing.specs.Held.{setting_from, IsRead, Goes, Has}
+use Rattle.sharing.specs.Held.{setting_from, IsRead, Has}
 use Rattle.sharing.proofs.Turned.{has_end}
 use Rattle.sharing.proofs.turns.to_end.Goals as goal
 
@@ -13,27 +13,11 @@ whole-requires c =
     let o = subst (λ z. IsRead z c.args.words.now) c.in-Accepted.is read in
     (o, table_enumerates is o.few_negations, program, records)
 
-pub shape_of-program : goal.shape_of-program
-shape_of-program c = c.whole.ensures.program_len_unchanged
-
-pub shape_of-records : goal.shape_of-records
-shape_of-records c = c.whole.ensures.records_len_unchanged
-
-pub returns-in-Accepted : goal.returns-in-Accepted
-returns-in-Accepted c =
+pub returns-in-Accepted-clause-has : goal.returns-in-Accepted-clause-has
+returns-in-Accepted-clause-has c =
     let a = c.args in
     let told = c.in-Accepted.is in
     let end = c.whole in
-    let program = end.new.program in
-    let records = end.new.records in
     let o = subst (λ z. IsRead z a.words.now) told c.requires.3 in
-    let along = end.ensures.along in
-    let has = has_end o a.order.now c.requires.0 end.result program records along end.ensures.waits_value.1 in record {
-      program_len_unchanged = end.ensures.program_len_unchanged;
-      records_len_unchanged = end.ensures.records_len_unchanged;
-      goes = subst (λ z. Goes z a.words.now a.order.now end.result program records) (sym told) along;
-      has = subst (λ z. Has (setting_from z a.words.now) (2 ^ most_negations) end.result records) (sym told) has;
-    }
-
-pub returns-in-Refused : goal.returns-in-Refused
-returns-in-Refused c = absurd (subst (λ z. IsRead z c.args.words.now) c.in-Refused.is c.requires.3)
+    let has = has_end o a.order.now c.requires.0 end.result end.new.program end.new.records end.ensures.along end.ensures.waits_value.1 in
+    subst (λ z. Has (setting_from z a.words.now) (2 ^ most_negations) end.result end.new.records) (sym told) has
