@@ -1,20 +1,20 @@
 -- What the masks of a rule bring to its four words in the reduct, one after the other. Assumes nothing.
-use Prim.Native.Nat.{ℕ, zero, suc, ◌+◌, ◌*◌, ◌≤◌, ◌<◌}
+use Prim.Native.Nat.{ℕ, zero, suc, ◌+◌, ◌≤◌, ◌<◌}
 use mathlib.Core.Path.{◌≡◌, refl, sym, ap, ◌∙◌, subst}
 use mathlib.Core.Bool.{Bool, true, false, cond, ◌||◌}
-use mathlib.Core.List.{List}
+use mathlib.Core.List.{List, [], ◌∷◌}
 use mathlib.Core.Logic.{◌⊎◌, inl, inr, ⊎_elim}
 use native.Mathlib.Numerals.{add-one}
 use native.Mathlib.Omega.{arith}
 use lib.Dec.{leb, eqb}
 use lib.ListN.{length, get_or, set}
+use lib.Seq.{get_or-set_same, get_or-set_other}
 use borrow.Author.Tests.{leb-true, leb-false}
 use Rattle.sets.specs.Decides.{unequal, Decides, decided, dec_eq, is_true, is_false}
 use Rattle.sets.specs.Sets.{◌meets?◌, ◌∪◌, ◌∖◌, ∅}
-use Rattle.semantics.specs.Words.{word_of, rule_in}
+use Rattle.semantics.specs.Words.{rule_in}
 use Rattle.std.specs.Prelude.{Option, Some, None}
-use Rattle.guess.specs.Acted.{acted_on, deleted_by, reduced_by, Cleared}
-use Rattle.guess.proofs.Words.{written, others_stay}
+use Rattle.guess.specs.Acted.{acted_on, deleted_by, reduced_by}
 
 module _ (u p : ℕ) where
   -- ---- what an answer says
@@ -97,27 +97,34 @@ module _ (u p : ℕ) where
     unfolding joined
     joined-more i t e = ap (λ x. brings x t (joined i t)) e
 
-    pub record Joined (words : List ℕ) (n i : ℕ) : Type 0 where
+    pub record Joined (rule : List ℕ) (i : ℕ) : Type 0 where
       pub few : i ≤ 8
-      pub stands : (t : ℕ) → t < 4 → word_of words n t ≡ joined i t
+      pub stands : (t : ℕ) → t < 4 → get_or rule t 0 ≡ joined i t
       pub all_k : 4 < i → (mask 4 meets? u) ≡ false
       pub all_not_m : 7 < i → (mask 7 meets? p) ≡ false
 
-    pub none-joined : (words : List ℕ) (n : ℕ) → Cleared words n → Joined words n 0
+    pub none-joined : Joined (∅ ∷ ∅ ∷ ∅ ∷ ∅ ∷ []) 0
     unfolding joined
-    none-joined words n f = record { few = omega arith; stands = f; all_k = λ h. absurd (omega arith); all_not_m = λ h. absurd (omega arith) }
+    none-joined = record { few = omega arith; stands = λ t _. empty t; all_k = λ h. absurd (omega arith); all_not_m = λ h. absurd (omega arith) }
+      where
+        empty : (t : ℕ) → get_or (∅ ∷ ∅ ∷ ∅ ∷ ∅ ∷ []) t 0 ≡ ∅
+        empty zero = refl
+        empty (suc zero) = refl
+        empty (suc (suc zero)) = refl
+        empty (suc (suc (suc zero))) = refl
+        empty (suc (suc (suc (suc t)))) = refl
 
-    pub one-joined : (words : List ℕ) (n i : ℕ) {to w : ℕ} → Joined words n i → i < 8 → 4 * n + 4 ≤ length words → to < 4 → acted_on u p i (mask i) ≡ Some (to, w)
-        → Joined (set words (4 * n + to) (word_of words n to ∪ w)) n (i + 1)
-    one-joined words n i {to} {w} j h l below e =
-        let there : 4 * n + to < length words = omega arith in
-        let new = word_of words n to ∪ w in
+    pub one-joined : (rule : List ℕ) (i : ℕ) {to w : ℕ} → Joined rule i → i < 8 → length rule ≡ 4 → to < 4 → acted_on u p i (mask i) ≡ Some (to, w)
+        → Joined (set rule to (get_or rule to 0 ∪ w)) (i + 1)
+    one-joined rule i {to} {w} j h l below e =
+        let there : to < length rule = omega arith in
+        let new = get_or rule to 0 ∪ w in
         rw add-one (record {
           few = omega arith;
           stands = λ t k. ⊎_elim
-              (λ q. subst (λ z. word_of (set words (4 * n + to) new) n z ≡ joined (suc i) z) (sym q)
-              (written words n to new there ∙ ap (λ x. x ∪ w) (j.stands to below) ∙ sym (joined-more i to e ∙ brought to w (joined i to))))
-              (λ q. others_stay words n to new there t q ∙ j.stands t k ∙ sym (joined-more i t e ∙ not_brought to t w (joined i t) q))
+              (λ q. subst (λ z. get_or (set rule to new) z 0 ≡ joined (suc i) z) (sym q)
+              (get_or-set_same rule to new 0 there ∙ ap (λ x. x ∪ w) (j.stands to below) ∙ sym (joined-more i to e ∙ brought to w (joined i to))))
+              (λ q. get_or-set_other rule to t new 0 q ∙ j.stands t k ∙ sym (joined-more i t e ∙ not_brought to t w (joined i t) q))
               (decided (dec_eq t to));
           all_k = λ k. ⊎_elim
               (λ q. k-holds (mask 4) (subst (λ z. acted_on u p z (mask z) ≡ Some (to, w)) q e)) (λ q. j.all_k (omega arith)) (decided (dec_eq i 4));
@@ -143,13 +150,13 @@ module _ (u p : ℕ) where
       unfolding joined acted_on
       not_nots = rw (k, m)
 
-    pub all_joined : (words : List ℕ) (n i : ℕ) → Joined words n i → 8 ≤ i → (deleted_by u p masks ≡ false) × (rule_in words n ≡ reduced_by u p masks)
+    pub all_joined : (rule : List ℕ) (i : ℕ) → Joined rule i → 8 ≤ i → (deleted_by u p masks ≡ false) × (rule_in rule 0 ≡ reduced_by u p masks)
     unfolding reduced_by
-    all_joined words n i j h =
+    all_joined rule i j h =
         let e : i ≡ 8 = omega (arith, j.few) in
         let k = j.all_k (omega arith) in
         let m = j.all_not_m (omega arith) in
-        let at : (t : ℕ) → t < 4 → word_of words n t ≡ joined 8 t = λ t l. j.stands t l ∙ ap (λ z. joined z t) e in
+        let at : (t : ℕ) → t < 4 → get_or rule t 0 ≡ joined 8 t = λ t l. j.stands t l ∙ ap (λ z. joined z t) e in
         (rw (k, m), cc (at 0 (omega arith) ∙ heads k m, at 1 (omega arith) ∙ plains k m, at 2 (omega arith) ∙ nots k m, at 3 (omega arith) ∙ not_nots k m))
 
     -- a mask at which the rule is deleted

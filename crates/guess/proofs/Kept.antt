@@ -1,10 +1,10 @@
 -- The rules of the reduct as they are written, one rule after the other. Assumes nothing.
 use Prim.Native.Nat.{ℕ, ◌+◌, ◌*◌, ◌≤◌}
 use mathlib.Core.Path.{◌≡◌, refl, sym, ap, ◌∙◌, subst}
-use mathlib.Core.Bool.{Bool, true, false, not}
+use mathlib.Core.Bool.{Bool, not}
 use mathlib.Core.List.{List, [], ◌∷◌, ◌++◌, map, map-append, append-nil}
-use mathlib.Core.Logic.{◌⊎◌, ⊎_elim}
 use native.Mathlib.Omega.{arith}
+use Rattle.std.specs.Prelude.{Some, None}
 use lib.ListN.{take}
 use Rattle.sets.specs.Lists.{only, keep, keep_snoc}
 use Rattle.sets.specs.Sets.{set_of}
@@ -14,7 +14,7 @@ use Rattle.semantics.specs.Words.{masks_in, rules_in, rules-none, rules-more, ru
 use Rattle.guess.specs.declared.outline.Outline.{Outline}
 use Rattle.guess.specs.Programs.{unmasked_in, Outlines}
 use Rattle.guess.specs.Negations.{assumed_by}
-use Rattle.guess.specs.Acted.{deleted_by, reduced_by}
+use Rattle.guess.specs.Acted.{deleted_by, reduced_by, Reduced}
 use Rattle.guess.specs.Numbered.{negations_by_lem}
 use Rattle.guess.proofs.Reduced.{reduct_by}
 use Rattle.guess.proofs.Words.{program_stays}
@@ -43,28 +43,19 @@ module _ (u p : ℕ) where
     none_written out = record { few = omega arith; program = program-none out ∙ sym (ap kept (rules-none words) ∙ kept-none) }
 
     -- one rule more: written after the others, or left out
-    module _ (out after : List ℕ) (n j : ℕ) (w : Written out n j) (stays : take (4 * n) after ≡ take (4 * n) out)
-        {r : Bool} (answered : r ≡ not (deleted_by u p (masks_in words j))) where
-      more : kept (rules_in words (j + 1)) ≡ kept (rules_in words j) ++ map (reduced_by u p) (only r (masks_in words j))
-      more = ap kept (rules-more words j) ∙ kept_more (rules_in words j) (masks_in words j) ∙ rw answered
+    module _ {out : List ℕ} {n j : ℕ} (w : Written out n j) where
+      more : {r : Bool} → deleted_by u p (masks_in words j) ≡ r → kept (rules_in words (j + 1)) ≡ kept (rules_in words j) ++ map (reduced_by u p) (only (not r) (masks_in words j))
+      more e = ap kept (rules-more words j) ∙ kept_more (rules_in words j) (masks_in words j) ∙ rw e
 
-      same-program : program_in after n ≡ kept (rules_in words j)
-      same-program = program_stays after out n stays ∙ w.program
+      pub one_written : {after : List ℕ} (rule : List ℕ) → Reduced u p (masks_in words j) (Some rule) → take (4 * n) after ≡ take (4 * n) out → rule_in after n ≡ rule_in rule 0
+          → Written after (n + 1) (j + 1)
+      one_written {after} rule r stays there = record {
+        few = omega (arith, w.few);
+        program = program-more after n ∙ rw (more r.0, there, r.1, program_stays after out n stays, w.program);
+      }
 
-      added : r ≡ true → rule_in after n ≡ reduced_by u p (masks_in words j) → program_in after (n + 1) ≡ kept (rules_in words (j + 1))
-      added told is = program-more after n ∙ rw (more, told, same-program, is)
-
-      left_out : r ≡ false → program_in after n ≡ kept (rules_in words (j + 1))
-      left_out told = rw (more, told) (same-program ∙ sym (append-nil (kept (rules_in words j))))
-
-      pub one_written : {m : ℕ} → (r ≡ true → rule_in after n ≡ reduced_by u p (masks_in words j))
-          → ((r ≡ true) × (m ≡ n + 1)) ⊎ ((r ≡ false) × (m ≡ n)) → Written after m (j + 1)
-      one_written is came =
-          let f = w.few in
-          record {
-            few = ⊎_elim (λ q. omega (arith, q.1)) (λ q. omega (arith, q.1)) came;
-            program = ⊎_elim (λ q. rw q.1 (added q.0 (is q.0))) (λ q. rw q.1 (left_out q.0)) came;
-          }
+      pub left_out : Reduced u p (masks_in words j) None → Written out n (j + 1)
+      left_out gone = record { few = omega (arith, w.few); program = rw (more gone) (w.program ∙ sym (append-nil (kept (rules_in words j)))) }
 
 -- ---- all rules written: the reduct of the definition
 pub all_written : {x : Outline} {words : List ℕ} → Outlines x words → (g : ℕ) (out : List ℕ) (n : ℕ)

@@ -1,8 +1,8 @@
 -- What a guess does to a rule, by sets of atoms: u has those whose "not K a" is in the guess, p those whose "M a" is. Assumes nothing.
-use Rattle.std.specs.Prelude.{ℕ, ◌<◌, ◌≡◌, Bool, cond, ◌||◌, Option, Some, None, List, leb, eqb, get_or}
-use Rattle.sets.specs.Sets.{◌meets?◌, ◌∪◌, ◌∖◌, ∅}
+use Rattle.std.specs.Prelude.{ℕ, ◌≡◌, Bool, true, false, cond, ◌||◌, Option, Some, None, List, leb, eqb, get_or}
+use Rattle.sets.specs.Sets.{◌meets?◌, ◌∪◌, ◌∖◌}
 use Rattle.semantics.specs.Definitions.Rules.{Rule}
-use Rattle.semantics.specs.Words.{word_of}
+use Rattle.semantics.specs.Words.{rule_in}
 
 module _ (u p : ℕ) where
   -- to mask i: its literals, or those that are not removed, join one of the four masks of the reduct; or the rule is deleted
@@ -27,6 +27,7 @@ module _ (u p : ℕ) where
     not_nots = get_or masks 3 0 ∪ get_or masks 6 0 ∖ p;
   }
 
--- the four words of rule n are empty sets
-abbrev pub Cleared : List ℕ → (n : ℕ) → Type 0
-Cleared words n = (i : ℕ) → i < 4 → word_of words n i ≡ ∅
+  -- what is left of the rule of eight masks: none where it is deleted, else its four words
+  abbrev pub Reduced : List ℕ → Option (List ℕ) → Type 0
+  Reduced masks None = deleted_by masks ≡ true
+  Reduced masks (Some rule) = (deleted_by masks ≡ false) × (rule_in rule 0 ≡ reduced_by masks)

@@ -28,7 +28,8 @@ fn in_masks(words: &[u16], rules: usize, m: usize) -> u16
 {
     let mut set = 0;
     for i in 0..rules {
-        set = set | words[8 * i + m] | words[8 * i + m + 1];
+        set |= words[8 * i + m];
+        set |= words[8 * i + m + 1];
     }
     set
 }

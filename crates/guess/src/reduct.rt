@@ -1,8 +1,8 @@
 // The reduct of a guess, in words, four a rule.
-ghost use Rattle.std.specs.Prelude.{◌≡◌, true, not, ◌+◌, ◌*◌, ◌<◌, ◌≤◌, length, take, IfSome};
-ghost use Rattle.semantics.specs.Words.{program_room, masks_in, rule_in, program_in};
+ghost use Rattle.std.specs.Prelude.{◌≡◌, ◌+◌, ◌*◌, ◌<◌, ◌≤◌, length, IfSome};
+ghost use Rattle.semantics.specs.Words.{program_room, masks_in, program_in};
 ghost use Rattle.guess.specs.Programs.{unmasked_in, Outlines};
-ghost use Rattle.guess.specs.Acted.{acted_on, deleted_by, reduced_by, Cleared};
+ghost use Rattle.guess.specs.Acted.{acted_on, Reduced};
 
 use super::negations::{Assumptions, assumed};
 use super::outline::Outline;
@@ -35,36 +35,17 @@ fn act(i: usize, mask: u16, by: Assumptions) -> Option<(usize, u16)>
     }
 }
 
-// Clears the four words of rule n.
-fn clear(out: &mut [u16], n: usize)
-    requires { 4 * n + 4 ≤ length out.old }
-    ensures out_len_unchanged { length out.new ≡ length out.old }
-    ensures out_unchanged { take (4 * n) out.new ≡ take (4 * n) out.old }
-    ensures cleared { Cleared out.new n }
+// What rule j of the words becomes in the reduct: its head, plain, "not" and "not not" atoms; none where it is deleted.
+fn reduce(words: &[u16], j: usize, by: Assumptions) -> Option<[u16; 4]>
+    requires { 8 * j + 8 ≤ length words.now }
+    ensures { Reduced by.unknown by.maybe (masks_in words.now j) result }
 {
-    let at = 4 * n;
-    out[at] = 0;
-    out[at + 1] = 0;
-    out[at + 2] = 0;
-    out[at + 3] = 0;
-}
-
-// Rule j of the words becomes rule n of the reduct, if it is not deleted; says whether it stays.
-fn reduce(words: &[u16], j: usize, by: Assumptions, out: &mut [u16], n: usize) -> bool
-    requires { (8 * j + 8 ≤ length words.now) × (4 * n + 4 ≤ length out.old) }
-    ensures out_len_unchanged { length out.new ≡ length out.old }
-    ensures out_unchanged { take (4 * n) out.new ≡ take (4 * n) out.old }
-    ensures value { result ≡ not (deleted_by by.unknown by.maybe (masks_in words.now j)) }
-    ensures n_after { result ≡ true → rule_in out.new n ≡ reduced_by by.unknown by.maybe (masks_in words.now j) }
-{
-    clear(&mut out[..], n);
+    let mut rule = [0u16; 4];
     for i in 0..8 {
-        let Some((to, mask)) = act(i, words[8 * j + i], by) else {
-            return false;
-        };
-        out[4 * n + to] |= mask;
+        let (to, mask) = act(i, words[8 * j + i], by)?;
+        rule[to] |= mask;
     }
-    true
+    Some(rule)
 }
 
 // Writes the reduct of a guess, and says how many rules it has. The rules that are deleted are left out; the day's constraints are not
@@ -78,7 +59,8 @@ pub fn reduct(words: &[u16], x: Outline, guess: u16, out: &mut [u16]) -> usize
     let by = assumed(x, guess);
     let mut n = 0;
     for j in 0..x.rules {
-        if reduce(words, j, by, &mut out[..], n) {
+        if let Some(rule) = reduce(words, j, by) {
+            out[4 * n..4 * n + 4].copy_from_slice(&rule);
             n += 1;
         }
     }

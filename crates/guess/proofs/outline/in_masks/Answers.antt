@@ -18,9 +18,7 @@ one-rule words i m h =
 
 pub loop-i-init : goal.loop-i-init
 unfolding flat
-loop-i-init c = (omega arith, rw (rules-none c.args.words.now))
-
--- one rule more
+loop-i-init c = rw (rules-none c.args.words.now)
 
 pub loop-i-preserved : goal.loop-i-preserved
 loop-i-preserved c =
@@ -28,11 +26,11 @@ loop-i-preserved c =
     let l = c.loop-i in
     let more = one-rule a.words.now l.i a.m c.requires.1 in
     let same : 8 * l.i + (a.m + 1) ≡ 8 * l.i + a.m + 1 = omega arith in
-    (omega arith, rw l.invariant.1 (sym (more ∙ rw same)))
+    rw l.invariant (sym (more ∙ rw same))
 
 pub returns : goal.returns
 returns c =
     let a = c.args in
     let l = c.loop-i in
-    let same : l.i ≡ a.rules = omega (arith, l.invariant.0) in
-    l.invariant.1 ∙ rw same
+    let same : l.i ≡ a.rules = omega arith in
+    l.invariant ∙ rw same
