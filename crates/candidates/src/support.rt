@@ -4,48 +4,45 @@ ghost use Rattle.std.specs.Prelude.{◌≡◌, ◌+◌, ◌*◌, ◌≤◌, leng
 ghost use Rattle.sets.specs.Sets.{◌∈◌};
 ghost use Rattle.semantics.specs.Definitions.Sheet.{most_atoms};
 ghost use Rattle.lanes.specs.Lanes.{Lanes};
-ghost use Rattle.lanes.specs.Cube.{Table};
 ghost use Rattle.candidates.specs.Rules.{SupportAdded, SupportsIn, Supported};
 
 use gather::digest::Digest;
-use lanes::cube::cube;
+use lanes::cube::Patterns;
 use sets::{Set, power};
 
 // Adds to the words of the atoms the lanes of word w in which the rule supports them.
-fn support_by(low: &[u64; 128], r: Digest, w: u16, by: &mut [u64; 16])
-    requires { Table low.now }
+fn support_by(patterns: &Patterns, r: Digest, w: u16, by: &mut [u64; 16])
     ensures { SupportAdded r w by.old by.new }
 {
     let mut rest = r.head.minus(r.plain);
     while rest > 0 {
         let a = rest.first();
         let one = power(a as u16);
-        let sets = cube(low, r.nots | r.head.minus(one), r.body | r.plain | one, w);
+        let sets = patterns.cube(r.nots | r.head.minus(one), r.body | r.plain | one, w);
         by[a] |= sets;
         rest &= rest - 1;
     }
 }
 
 // The same of all rules: each lane in which one of them supports an atom is in the atom's word.
-pub fn supported_sets(low: &[u64; 128], digests: &[Digest], w: u16) -> [u64; 16]
-    requires { Table low.now }
+pub fn supported_sets(patterns: &Patterns, digests: &[Digest], w: u16) -> [u64; 16]
     ensures { SupportsIn digests.now (length digests.now) w result }
 {
     let mut by = [0u64; 16];
     for &r in digests {
-        support_by(low, r, w, &mut by);
+        support_by(patterns, r, w, &mut by);
     }
     by
 }
 
 // The lanes, of these, of word w that are in the word of each of their atoms.
-pub fn all_supported(low: &[u64; 128], atoms: usize, w: u16, by: &[u64; 16], lanes: u64) -> u64
-    requires { Table low.now × (atoms ≤ most_atoms) }
+pub fn all_supported(patterns: &Patterns, atoms: usize, w: u16, by: &[u64; 16], lanes: u64) -> u64
+    requires { atoms ≤ most_atoms }
     ensures { Lanes (λ b. (b ∈ lanes) × Supported by.now atoms (64 * w + b) b) result }
 {
     let mut left = lanes;
     for a in 0..atoms {
-        let having = cube(low, 0, power(a as u16), w);
+        let having = patterns.cube(0, power(a as u16), w);
         left = left.minus(having.minus(by[a]));
     }
     left

@@ -26,9 +26,9 @@ word_self l w =
     let r : (64 * w + b) % 64 ≡ b = omega arith in
     (λ m. record { held = rw (q, r) m }, λ m. rw (q, r) at m.held)) lanes_self
 
--- of the numbers of a plane, those with P
-pub word_with : (P : ℕ → Type 0) (l : List ℕ) (w : ℕ) {x : ℕ} → Lanes (λ b. (b ∈ get_or l w 0) × P (64 * w + b)) x → Word (λ g. (g in_plane l) × P g) w x
-word_with P l w = lanes_iff (λ b h. let f = (word_self l w).lane h in (λ p. (f.0 p.0, p.1), λ p. (f.1 p.0, p.1)))
+-- of the numbers with P those with Q too
+pub word_with : (P Q : ℕ → Type 0) (w : ℕ) {x y : ℕ} → Word P w y → Lanes (λ b. (b ∈ y) × Q (64 * w + b)) x → Word (λ g. P g × Q g) w x
+word_with P Q w f = lanes_iff (λ b h. (λ p. ((f.lane h).0 p.0, p.1), λ p. ((f.lane h).1 p.0, p.1)))
 
 -- a plane that is made word by word: the words before w say Q, the others still P
 module _ (P Q : ℕ → Type 0) where

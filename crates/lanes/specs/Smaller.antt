@@ -1,10 +1,10 @@
--- The lanes in which some proper subset of i is a model of the rules that are on there. Assumes nothing.
-use Rattle.std.specs.Prelude.{ℕ, ◌+◌, ◌-◌, ◌*◌, ◌≤◌, ◌<◌, ◌≡◌, not, ◌&&◌, List, get_or}
-use Rattle.std.proofs.Common.{zero-le, subst, inl, inr, ⊎_elim, arith, not-suc-le-zero, below_more}
-use Rattle.sets.specs.Decides.{Decides, decided, dec_iff, dec_and, dec_not}
-use Rattle.sets.specs.Sets.{◌∈◌, ◌⊆◌, ◌⊂◌, Meets, ◌⊆?◌, ◌meets?◌, ◌∩◌, ◌∪◌, ◌∖◌, ∅}
-use Rattle.sets.specs.Members.{dec_∈, ∈-∖, dec_⊆, dec_meets, ∈-∅, ⊆_le, ⊂_less, ∩-⊆, none_between, next_less}
-use Rattle.lanes.specs.Lanes.{Lanes, lanes_self, lanes_iff, lanes_or, lanes_minus, lanes_none}
+-- The lanes in which a set is a model of the rules that are on there. Assumes nothing.
+use Rattle.std.specs.Prelude.{ℕ, ◌+◌, ◌*◌, ◌≤◌, ◌<◌, ◌≡◌, not, ◌&&◌, List, get_or}
+use Rattle.std.proofs.Common.{subst, arith, not-suc-le-zero, below_more}
+use Rattle.sets.specs.Decides.{Decides, dec_iff, dec_and, dec_not}
+use Rattle.sets.specs.Sets.{◌∈◌, ◌⊆◌, Meets, ◌⊆?◌, ◌meets?◌, ◌∖◌, ∅}
+use Rattle.sets.specs.Members.{dec_⊆, dec_meets, ∈-∅}
+use Rattle.lanes.specs.Lanes.{Lanes, lanes_self, lanes_iff, lanes_minus, lanes_none}
 
 -- rule r, the first of its four words its head, the second its plain atoms, fails in s: its plain atoms are within s, and its head is apart from s
 pub record Fails (rules : List ℕ) (r s : ℕ) : Type 0 where
@@ -44,44 +44,3 @@ module _ (rules on : List ℕ) where
     pub passes_ends : (m : ℕ) → n ≤ m → left ≡ 0 → Lanes (λ b. (b ∈ x) × Passes m b s) ∅
     passes_ends m h e =
         lanes_none (λ b l q. ∈-∅ (subst (λ z. b ∈ z) e ((p.lane l).1 (q.0, record { rule = λ r k. q.1.rule r (omega arith) }))))
-
-  -- a proper subset of i, from s on, that passes in lane b
-  pub record Passed (n i s b : ℕ) : Type 0 where
-    pub set : ℕ
-    pub within : set ⊂ i
-    pub from : s ≤ set
-    pub passes : Passes n b set
-
-  module _ (n i lanes : ℕ) where
-    pub found_none : Lanes (λ b. (b ∈ lanes) × Passed n i i b) ∅
-    found_none = lanes_none (λ b l q. absurd (omega (arith, ⊂_less q.1.within, q.1.from)))
-
-    pub found-more : (s : ℕ) {found more : ℕ} → 0 < s → s ⊆ i → Lanes (λ b. (b ∈ lanes) × Passed n i s b) found
-        → Lanes (λ b. (b ∈ lanes ∖ found) × Passes n b ((s - 1) ∩ i)) more → Lanes (λ b. (b ∈ lanes) × Passed n i ((s - 1) ∩ i) b) (found ∪ more)
-    found-more s {found} h k p q =
-        lanes_iff (λ b l. (
-          ⊎_elim (λ u. let t = u.1 in (u.0, record { set = t.set; within = t.within; from = omega (arith, t.from, next_less s i h); passes = t.passes }))
-              (λ u. (
-                ((∈-∖ b lanes found).0 u.0).0,
-                record {
-                  set = (s - 1) ∩ i;
-                  within = record { within = ∩-⊆ (s - 1) i; differ = λ e. omega (arith, next_less s i h, ⊆_le k) };
-                  from = omega arith;
-                  passes = u.1;
-                },
-              )),
-          λ u. let t = u.1 in
-              ⊎_elim (λ m. inl ((p.lane l).0 m)) (λ o.
-              ⊎_elim (λ e. inr ((∈-∖ b lanes found).1 (u.0, o), subst (Passes n b) e t.passes))
-              (λ f. inl (u.0, record { set = t.set; within = t.within; from = f; passes = t.passes })) (none_between k t.within.within t.from))
-              (decided (dec_∈ b found)),
-        )) (lanes_or p q)
-
-    -- at the end, or once every lane is found
-    pub found_ends : (s : ℕ) {found : ℕ} → lanes ∖ found ≡ 0 → Lanes (λ b. (b ∈ lanes) × Passed n i s b) found
-        → Lanes (λ b. (b ∈ lanes) × Passed n i 0 b) found
-    found_ends s {found} e p =
-        lanes_iff (λ b l. (
-          λ u. let t = u.1 in (u.0, record { set = t.set; within = t.within; from = zero-le; passes = t.passes }),
-          λ u. ⊎_elim (λ m. (p.lane l).0 m) (λ n. absurd (∈-∅ (subst (λ z. b ∈ z) e ((∈-∖ b lanes found).1 (u.0, n))))) (decided (dec_∈ b found)),
-        )) p

@@ -1,14 +1,14 @@
 -- Rules of four words, all of them with plain atoms in i: the head's atoms that are in i, the plain atoms, and two sets that decide for which numbers
 -- a rule is on. The numbers for which i is a model of the rules that are on, and no proper subset is. Assumes nothing.
 use Rattle.std.specs.Prelude.{ℕ, ◌+◌, ◌*◌, ◌<◌, ◌≡◌, List, length, get_or, set}
-use Rattle.std.proofs.Common.{zero-le, subst, ⊎_elim, arith, not-suc-le-zero, get_or-set_same, get_or-set_other, below_more}
+use Rattle.std.proofs.Common.{subst, ⊎_elim, arith, not-suc-le-zero, get_or-set_same, get_or-set_other, below_more}
 use Rattle.sets.specs.Decides.{decided, dec_eq}
 use Rattle.sets.specs.Sets.{◌∈◌, ◌⊂◌, ◌∖◌, ∅}
 use Rattle.sets.specs.Members.{∈-∅}
 use Rattle.lanes.specs.Lanes.{Lanes, lanes_self, lanes_is, lanes_iff, lanes_minus, lanes_none}
 use Rattle.lanes.specs.Cube.{InCube}
 use Rattle.lanes.specs.Planes.{Word}
-use Rattle.lanes.specs.Smaller.{Fails, Passed}
+use Rattle.lanes.specs.Smaller.{Fails}
 
 -- rule r is on for g: g has no member of its third word, and every member of its fourth
 abbrev pub SwitchedOn : List ℕ → ℕ → ℕ → Type 0
@@ -61,22 +61,5 @@ pub stable_empty : (rules : List ℕ) (n i w lanes : ℕ) → lanes ≡ 0 → La
 stable_empty rules n i w lanes e = lanes_none (λ b l u. ∈-∅ (subst (λ z. b ∈ z) e u.0))
 
 module _ (rules on : List ℕ) (n i w lanes : ℕ) {model : ℕ} (p : Lanes (λ b. (b ∈ lanes) × HeadsMeet rules n (64 * w + b)) model) where
-  pub stable-some : {small : ℕ} → LanesOn rules w model n on → Lanes (λ b. (b ∈ model) × Passed rules on n i 0 b) small
-      → Lanes (λ b. (b ∈ lanes) × StableFor rules n i (64 * w + b)) (model ∖ small)
-  stable-some s q =
-      lanes_iff (λ b l. (
-        λ u. let m = (p.lane l).1 u.0 in (
-          u.0.0,
-          record {
-            model = u.0.1;
-            minimal = λ j k f. u.1 (m, record { set = j; within = k; from = zero-le; passes = record { rule = λ r h o. f r h (((s.rule h).lane l).0 o).1 } });
-          },
-        ),
-        λ u. let m = (p.lane l).1 (u.0, u.1.model) in (
-          (u.0, u.1.model),
-          λ v. let t = v.1 in u.1.minimal t.set t.within (λ r h o. t.passes.rule r h (((s.rule h).lane l).1 (m, o))),
-        ),
-      )) (lanes_minus p q)
-
   pub stable-none : model ≡ 0 → Lanes (λ b. (b ∈ lanes) × StableFor rules n i (64 * w + b)) ∅
   stable-none e = lanes_none (λ b l u. ∈-∅ (subst (λ z. b ∈ z) e ((p.lane l).1 (u.0, u.1.model))))

@@ -138,24 +138,29 @@ const PATTERNS: [u64; 128] = [
 ];
 
 // The patterns. Make them once and lend them: an array that is indexed where it stands is copied at each look.
-pub fn patterns() -> [u64; 128]
-    ensures { Table result }
-{
-    PATTERNS
+#[derive(Drop)]
+pub struct Patterns {
+    words: [u64; 128],
+    pub ghost table: { Table words },
 }
 
-// The lanes of word w whose numbers have no member of z and every member of o.
-pub fn cube(low: &[u64; 128], z: u16, o: u16, w: u16) -> u64
-    requires { Table low.now }
-    ensures { Lanes (λ b. InCube z o (64 * w + b)) result }
-{
-    if meets(z / 64, w) {
-        return 0;
+impl Patterns {
+    pub fn new() -> Patterns {
+        Patterns { words: PATTERNS }
     }
-    if subset(o / 64, w) {
-        let s = (z % 64) as usize;
-        let t = (o % 64) as usize;
-        return low[s] & low[64 + t];
+
+    // The lanes of word w whose numbers have no member of z and every member of o.
+    pub fn cube(&self, z: u16, o: u16, w: u16) -> u64
+        ensures { Lanes (λ b. InCube z o (64 * w + b)) result }
+    {
+        if meets(z / 64, w) {
+            return 0;
+        }
+        if subset(o / 64, w) {
+            let s = (z % 64) as usize;
+            let t = (o % 64) as usize;
+            return self.words[s] & self.words[64 + t];
+        }
+        0
     }
-    0
 }

@@ -1,12 +1,11 @@
 // A table of three words a number: the atoms in every set that it took in, the atoms in some of them, and how many there were.
 ghost use Rattle.std.specs.Prelude.{◌≡◌, ℕ, ◌+◌, ◌*◌, ◌≤◌, ◌<◌, length, get_or};
 ghost use Rattle.sets.specs.Sets.{◌∈◌};
-ghost use Rattle.lanes.specs.Cube.{Table};
 ghost use Rattle.lanes.specs.Planes.{◌in_plane◌};
 ghost use Rattle.lanes.specs.Noted.{Noted, InWord};
-ghost use Rattle.lanes.specs.Step.{WordNoted, PlaneNoted};
+ghost use Rattle.lanes.specs.Step.{WordNoted};
 
-use super::cube::cube;
+use super::cube::Patterns;
 use sets::Set;
 
 // The entry of g takes the set i in.
@@ -39,7 +38,7 @@ pub fn note_lanes(table: &mut [u16], w: usize, lanes: u64, i: u16)
 
 // i is stable for these lanes of word w: the active ones of them that lack something it needs leave, and the others take it in.
 pub fn note_word(
-    low: &[u64; 128],
+    patterns: &Patterns,
     w: usize,
     stable: u64,
     i: u16,
@@ -47,7 +46,7 @@ pub fn note_word(
     active: &mut [u64],
     table: &mut [u16],
 )
-    requires { Table low.now × (w < length active.old) × (length active.old ≤ 1024) × (192 * length active.old ≤ length table.old)
+    requires { (w < length active.old) × (length active.old ≤ 1024) × (192 * length active.old ≤ length table.old)
         × ((b : ℕ) → b < 64 → b ∈ get_or active.old w 0 → get_or table.old (3 * (64 * w + b) + 2) 0 < 65535) }
     ensures { WordNoted w stable i needed active.old table.old active.new table.new }
 {
@@ -56,27 +55,7 @@ pub fn note_word(
     if these == 0 {
         return;
     }
-    let having = cube(low, 0, needed, w as u16);
+    let having = patterns.cube(0, needed, w as u16);
     active[w] = old.minus(these.minus(having));
     note_lanes(table, w, these & having, i);
-}
-
-// i is stable for the numbers of a plane: the active ones of them that lack something it needs leave, and the others take it in.
-pub fn note_words(
-    low: &[u64; 128],
-    stable: &[u64],
-    i: u16,
-    needed: u16,
-    active: &mut [u64],
-    table: &mut [u16],
-)
-    requires { Table low.now × (length stable.now ≡ length active.old) × (length active.old ≤ 1024)
-        × (192 * length active.old ≤ length table.old) × ((g : ℕ) → g in_plane active.old → get_or table.old (3 * g + 2) 0 < 65535) }
-    ensures { PlaneNoted stable.now i needed active.old table.old active.new table.new }
-{
-    let mut w = 0;
-    while w < active.len() {
-        note_word(low, w, stable[w], i, needed, active, table);
-        w += 1;
-    }
 }

@@ -5,7 +5,6 @@ ghost use Rattle.lanes.specs.Planes.{◌in_plane◌};
 
 use sets::Set;
 
-
 // Is g in the plane?
 pub fn holds(plane: &[u64], g: usize) -> bool
     requires { g < 64 * length plane.now }

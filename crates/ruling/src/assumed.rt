@@ -1,12 +1,11 @@
 // The lanes of a word whose guesses assume a negation.
 ghost use Rattle.std.specs.Prelude.{◌≡◌, ◌+◌, ◌≤◌, length};
 ghost use Rattle.guess.specs.Negations.{Few};
-ghost use Rattle.lanes.specs.Cube.{Table};
 ghost use Rattle.ruling.specs.Assumed.{Numbers, AssumedIn};
 
 use guess::negations::found;
 use guess::outline::Outline;
-use lanes::cube::cube;
+use lanes::cube::Patterns;
 use sets::{Set, full, power};
 
 // By atom, the number of "not K a" as a set at a, and that of "M a" at 16 + a; the empty set where there is none.
@@ -24,13 +23,13 @@ pub fn number(x: Outline, numbers: &mut [u16])
 }
 
 // By atom, the lanes of word w whose guesses have a number of the set at that place.
-pub fn assume(low: &[u64; 128], numbers: &[u16], from: usize, w: u16, lanes: &mut [u64])
-    requires { Table low.now × (from + 16 ≤ length numbers.now) × (16 ≤ length lanes.old) }
+pub fn assume(patterns: &Patterns, numbers: &[u16], from: usize, w: u16, lanes: &mut [u64])
+    requires { (from + 16 ≤ length numbers.now) × (16 ≤ length lanes.old) }
     ensures lanes_len_unchanged { length lanes.new ≡ length lanes.old }
     ensures assumed_in { AssumedIn numbers.now from w 16 lanes.new }
 {
     for a in 0..16 {
-        let left_out = cube(low, numbers[from + a], 0, w);
+        let left_out = patterns.cube(numbers[from + a], 0, w);
         lanes[a] = u64::MAX.minus(left_out);
     }
 }

@@ -9,7 +9,6 @@ pub mod propagate;
 
 ghost use Rattle.std.specs.Prelude.{◌≤◌, ◌<◌, length};
 ghost use Rattle.guess.specs.Programs.{Outlines};
-ghost use Rattle.lanes.specs.Cube.{Table};
 ghost use Rattle.lanes.specs.Planes.{Word};
 ghost use Rattle.ruling.specs.Assumed.{Numbers};
 ghost use Rattle.ruling.specs.Free.{Free};
@@ -18,7 +17,7 @@ ghost use Rattle.ruling.specs.Contradiction.{Tested, RuledOutIn};
 use assumed::assume;
 use contradiction::{clashes, empty_head};
 use guess::outline::Outline;
-use lanes::cube::cube;
+use lanes::cube::Patterns;
 use literals::{in_some, lay};
 use propagate::propagate;
 use sets::{Set, full};
@@ -52,15 +51,15 @@ fn contradicted(words: &[u16], x: Outline, u: &[u64], p: &[u64]) -> u64
 }
 
 // The guesses of word w that are not contradicted, as lanes. `numbers` has the numbers of the negations.
-pub fn free_lanes(low: &[u64; 128], words: &[u16], x: Outline, numbers: &[u16], w: u16) -> u64
-    requires { Table low.now × Outlines x words.now × (32 ≤ length numbers.now) × Numbers x x.atoms numbers.now × (w < 64) }
+pub fn free_lanes(patterns: &Patterns, words: &[u16], x: Outline, numbers: &[u16], w: u16) -> u64
+    requires { Outlines x words.now × (32 ≤ length numbers.now) × Numbers x x.atoms numbers.now × (w < 64) }
     ensures { Word (Free x words.now) w result }
 {
     let mut u = [0u64; 16];
     let mut p = [0u64; 16];
-    assume(low, numbers, 0, w, &mut u[..]);
-    assume(low, numbers, 16, w, &mut p[..]);
-    let guesses = cube(low, full(15).minus(full(x.negations as u16)), 0, w);
+    assume(patterns, numbers, 0, w, &mut u[..]);
+    assume(patterns, numbers, 16, w, &mut p[..]);
+    let guesses = patterns.cube(full(15).minus(full(x.negations as u16)), 0, w);
     let bad = contradicted(words, x, &u[..], &p[..]);
     guesses.minus(bad)
 }

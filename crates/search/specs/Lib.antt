@@ -1,5 +1,4 @@
 -- The search for a smaller model in many lanes at once, the support of a set, and the words that share one computation.
-pub mod Planes
 pub mod Smaller
 pub mod Search
 pub mod Supported

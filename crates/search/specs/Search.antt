@@ -1,9 +1,10 @@
 -- A search, in many lanes at once, for a proper subset of i that is a model of the rules that are on: it has every atom of j, and no atom of out.
 -- Where a rule fails in j, an atom of its head is decided: it is in the subset, or it is not. Assumes nothing.
-use Rattle.std.specs.Prelude.{ℕ, ◌+◌, ◌*◌, ◌≤◌, ◌<◌, ◌≡◌, refl, List, ◌↔◌, ◌⊎◌, get_or}
+use Rattle.std.specs.Prelude.{ℕ, ◌+◌, ◌*◌, ◌≤◌, ◌<◌, ◌≡◌, refl, List, ◌↔◌, ◌⊎◌, get_or, Option}
+use Rattle.std.specs.Option.{MatchOption}
 use Rattle.std.proofs.Common.{sym, subst, inl, inr, ⊎_elim, arith, not-suc-le-zero, below_more}
 use Rattle.sets.specs.Decides.{decided}
-use Rattle.sets.specs.Sets.{◌∈◌, ◌⊆◌, ◌⊂◌, Meets, ◌∩◌, ◌∪◌, ◌∖◌, ∅, single, size}
+use Rattle.sets.specs.Sets.{◌∈◌, ◌⊆◌, ◌⊂◌, Meets, ◌∩◌, ◌∪◌, ◌∖◌, ∅, size}
 use Rattle.sets.specs.Members.{dec_∈, ∈-∅, ∈-∩, ∈-∪, ∈-∖, ∈-single, ⊆_trans, ⊆_refl, ⊆_antisym, ∪-⊆, ∖-⊆, ⊆_∪_left, ⊆_∪_right, dec_meets, meets-⊆}
 use Rattle.sets.specs.One.{OneOf}
 use Rattle.sets.specs.Size.{size-⊂}
@@ -11,16 +12,9 @@ use Rattle.lanes.specs.Lanes.{Lanes, lanes_self, lanes_is, lanes_iff, lanes_and,
 use Rattle.lanes.specs.Smaller.{Fails, Passes, passes_none}
 use Rattle.search.specs.Smaller.{Small}
 
--- a is a member of s, alone; the empty set only where s has none
-pub record Chosen (s a : ℕ) : Type 0 where
-  pub none : a ≡ 0 → s ≡ 0
-  pub some : (a ≡ 0 → ⊥) → OneOf s a
-
-pub chosen_none : {s : ℕ} → s ≡ 0 → Chosen s ∅
-chosen_none e = record { none = λ _. e; some = λ n. absurd (n refl) }
-
-pub chosen-one : {s a : ℕ} → a ∈ s → Chosen s (single a)
-chosen-one {a = a} m = record { none = λ e. absurd (∈-∅ (subst (λ z. a ∈ z) e ((∈-single a a).1 refl))); some = λ _. (a, m, refl) }
+-- a member of s, alone; nothing where s has none
+abbrev pub Chosen : ℕ → Option ℕ → Type 0
+Chosen s r = MatchOption r (s ≡ ∅) (OneOf s)
 
 -- ---- one member of s, alone
 module _ {s a : ℕ} (o : OneOf s a) where
@@ -43,31 +37,28 @@ fewer i y z k m n h s = size-⊂ (record {
   differ = λ e. ((∈-∖ k i z).0 (subst (λ w. k ∈ w) (sym e) ((∈-∖ k i y).1 (m, n)))).1 h;
 })
 
-module _ (i j out : ℕ) {head a : ℕ} (w : head ⊆ i) (n : Meets head j → ⊥) (o : OneOf (head ∖ out) a) where
-  in_head : o.0 ∈ head
-  in_head = ((∈-∖ o.0 head out).0 o.1).0
+module _ (i j out head : ℕ) {a : ℕ} (o : OneOf (head ∩ undecided i j out) a) where
+  at_hand : (o.0 ∈ i) × (o.0 ∈ j ∪ out → ⊥)
+  at_hand = (∈-∖ o.0 i (j ∪ out)).0 ((∈-∩ o.0 head (undecided i j out)).0 o.1).1
 
   not_out : o.0 ∈ out → ⊥
-  not_out = ((∈-∖ o.0 head out).0 o.1).1
+  not_out m = at_hand.1 ((⊆_∪_right j out).into m)
 
   not_in : o.0 ∈ j → ⊥
-  not_in m = n (record { common = o.0; left = in_head; right = m })
-
-  not_yet : o.0 ∈ j ∪ out → ⊥
-  not_yet m = ⊎_elim not_in not_out ((∈-∪ o.0 j out).0 m)
+  not_in m = at_hand.1 ((⊆_∪_left j out).into m)
 
   pub into-j : (j ⊆ i) → (Meets j out → ⊥) → (size (undecided i (j ∪ a) out) < size (undecided i j out)) × (j ∪ a ⊆ i) × (Meets (j ∪ a) out → ⊥)
   into-j s d = (
-    fewer i (j ∪ out) (j ∪ a ∪ out) o.0 (w.into in_head) not_yet ((⊆_∪_left (j ∪ a) out).into ((⊆_∪_right j a).into (has_one o)))
+    fewer i (j ∪ out) (j ∪ a ∪ out) o.0 at_hand.0 at_hand.1 ((⊆_∪_left (j ∪ a) out).into ((⊆_∪_right j a).into (has_one o)))
         ((∪-⊆ j out (j ∪ a ∪ out)).1 (⊆_trans (⊆_∪_left j a) (⊆_∪_left (j ∪ a) out), ⊆_∪_right (j ∪ a) out)),
-    (∪-⊆ j a i).1 (s, one-⊆ o (w.into in_head)),
+    (∪-⊆ j a i).1 (s, one-⊆ o at_hand.0),
     λ m. ⊎_elim (λ l. d (record { common = m.common; left = l; right = m.right }))
         (λ l. not_out (subst (λ z. z ∈ out) (is_one o l) m.right)) ((∈-∪ m.common j a).0 m.left),
   )
 
   pub into-out : (Meets j out → ⊥) → (size (undecided i j (out ∪ a)) < size (undecided i j out)) × (Meets j (out ∪ a) → ⊥)
   into-out d = (
-    fewer i (j ∪ out) (j ∪ (out ∪ a)) o.0 (w.into in_head) not_yet ((⊆_∪_right j (out ∪ a)).into ((⊆_∪_right out a).into (has_one o)))
+    fewer i (j ∪ out) (j ∪ (out ∪ a)) o.0 at_hand.0 at_hand.1 ((⊆_∪_right j (out ∪ a)).into ((⊆_∪_right out a).into (has_one o)))
         ((∪-⊆ j out (j ∪ (out ∪ a))).1 (⊆_∪_left j (out ∪ a), ⊆_trans (⊆_∪_left out a) (⊆_∪_right j (out ∪ a)))),
     λ m. ⊎_elim (λ l. d (record { common = m.common; left = m.left; right = l }))
         (λ l. not_in (subst (λ z. z ∈ j) (is_one o l) m.left)) ((∈-∪ m.common out a).0 m.right),
@@ -78,12 +69,15 @@ module _ {rules on : List ℕ} {n i j out b : ℕ} where
   small_all : j ≡ i → Small rules on n i j out b → ⊥
   small_all e t = t.within.differ (⊆_antisym t.within.within (subst (λ z. z ⊆ t.set) e t.from))
 
-  -- a rule that is on and fails in j, and has no atom in its head but those of out
-  small_none : (r : ℕ) → r < n → b ∈ get_or on r 0 → Fails rules r j → get_or rules (4 * r) 0 ∖ out ≡ 0 → Small rules on n i j out b → ⊥
+  -- a rule that is on and fails in j, and has no undecided atom in its head
+  small_none : (r : ℕ) → r < n → b ∈ get_or on r 0 → Fails rules r j → get_or rules (4 * r) 0 ∩ undecided i j out ≡ ∅ → Small rules on n i j out b → ⊥
   small_none r l o f e t =
       ⊎_elim (λ m.
-      let h = (∈-∖ m.common (get_or rules (4 * r) 0) out).1 (m.left, λ k. t.apart (record { common = m.common; left = m.right; right = k })) in
-      ∈-∅ (subst (λ z. m.common ∈ z) e h))
+      let decided_no : m.common ∈ j ∪ out → ⊥ = λ k.
+      ⊎_elim (λ u. f.head (record { common = m.common; left = m.left; right = u }))
+      (λ u. t.apart (record { common = m.common; left = m.right; right = u })) ((∈-∪ m.common j out).0 k) in
+      let h = (∈-∖ m.common i (j ∪ out)).1 (t.within.within.into m.right, decided_no) in
+      ∈-∅ {a = m.common} (subst (λ z. m.common ∈ z) e ((∈-∩ m.common (get_or rules (4 * r) 0) (undecided i j out)).1 (m.left, h))))
       (λ d. t.passes.rule r l o (record { body = ⊆_trans f.body t.from; head = d })) (decided (dec_meets (get_or rules (4 * r) 0) t.set))
 
   -- an atom is in the set, or it is not
@@ -157,7 +151,7 @@ module _ {rules on : List ℕ} {n i j out x r left found : ℕ} (s : Searched ru
     )) a;
   }
 
-  pub search_none : r < n → Fails rules r j → get_or rules (4 * r) 0 ∖ out ≡ 0 → Searched rules on n i j out x (r + 1) (left ∖ (left ∩ get_or on r 0)) found
+  pub search_none : r < n → Fails rules r j → get_or rules (4 * r) 0 ∩ undecided i j out ≡ ∅ → Searched rules on n i j out x (r + 1) (left ∖ (left ∩ get_or on r 0)) found
   search_none h f e =
       decides f (lanes_iff (λ b l. (
         inl,

@@ -6,17 +6,16 @@ use Rattle.sets.specs.Sets.{◌∈◌, ◌∖◌, ∅, single}
 use Rattle.sets.specs.Members.{∈-∅, ∅-⊆, dec_∈, ∖-⊂}
 use Rattle.lanes.specs.Lanes.{Lanes, lanes_self, lanes_iff, lanes_minus}
 use Rattle.lanes.specs.Stable.{HeadsMeet, StableFor, LanesOn}
-use Rattle.search.specs.Smaller.{HeadsWithin, Small}
+use Rattle.search.specs.Smaller.{Small}
 use Rattle.search.specs.Supported.{Kept, less_passes}
 
 module _ (rules on : List ℕ) (n i w lanes : ℕ) {model : ℕ} (p : Lanes (λ b. (b ∈ lanes) × HeadsMeet rules n (64 * w + b)) model) where
-  module _ (heads : HeadsWithin rules n i) (s : LanesOn rules w model n on) {left : ℕ} (k : Kept rules on n i model left) where
+  module _ (s : LanesOn rules w model n on) {left : ℕ} (k : Kept rules on i n model left) where
     -- in a lane that is not left the set without one atom is a model of the rules that are on
     struck : {b : ℕ} → b < 64 → b ∈ model → (b ∈ left → ⊥) → StableFor rules n i (64 * w + b) → ⊥
     struck {b} l m f t =
         let (a, h, u) = k.struck m f in
-        t.minimal (i ∖ single a) (∖-⊂ h)
-        (λ r q o. (less_passes heads (λ r q o e. ((p.lane l).0 m).1.rule r q e (((s.rule q).lane l).0 o).1) u).rule r q (((s.rule q).lane l).1 (m, o)))
+        t.minimal (i ∖ single a) (∖-⊂ h) (λ r q o. (less_passes u).rule r q (((s.rule q).lane l).1 (m, o)))
 
     pub stable-some : {small : ℕ} → Lanes (λ b. (b ∈ left) × Small rules on n i ∅ ∅ b) small → Lanes (λ b. (b ∈ lanes) × StableFor rules n i (64 * w + b)) (left ∖ small)
     stable-some q =

@@ -9,12 +9,11 @@ pub mod stable;
 pub mod supported;
 
 ghost use Rattle.std.specs.Prelude.{◌≡◌, ℕ, ◌+◌, ◌*◌, ◌≤◌, ◌<◌, length, get_or};
-ghost use Rattle.lanes.specs.Cube.{Table};
 ghost use Rattle.lanes.specs.Planes.{◌in_plane◌};
 ghost use Rattle.lanes.specs.Stable.{StableFor};
-ghost use Rattle.search.specs.Smaller.{HeadsWithin};
 ghost use Rattle.search.specs.Tried.{Tried};
 
+use lanes::cube::Patterns;
 use noted::note_words;
 use shared::{relevant, share};
 use stable::find_stable;
@@ -22,7 +21,7 @@ use stable::find_stable;
 // Of the active numbers for which i is stable, those that lack something it needs leave, and the others take it in. Words that agree on what
 // decides which rules are on share one computation. What `on` and `stable` hold then is left open.
 pub fn note_rules(
-    low: &[u64; 128],
+    patterns: &Patterns,
     rules: &[u16],
     n: usize,
     i: u16,
@@ -32,15 +31,15 @@ pub fn note_rules(
     active: &mut [u64],
     table: &mut [u16],
 )
-    requires { Table low.now × (4 * n ≤ length rules.now) × (n ≤ length on.old) × (length stable.old ≡ length active.old)
+    requires { (4 * n ≤ length rules.now) × (n ≤ length on.old) × (length stable.old ≡ length active.old)
         × (length active.old ≤ 1024) × (192 * length active.old ≤ length table.old)
-        × ((g : ℕ) → g in_plane active.old → get_or table.old (3 * g + 2) 0 < 65535) × HeadsWithin rules.now n i }
+        × ((g : ℕ) → g in_plane active.old → get_or table.old (3 * g + 2) 0 < 65535) }
     ensures on_len_unchanged { length on.new ≡ length on.old }
     ensures stable_len_unchanged { length stable.new ≡ length stable.old }
     ensures tried { Tried (StableFor rules.now n i) i needed active.old table.old active.new table.new }
 {
     let parting = (relevant(rules, n) / 64) as usize;
     share(active, parting, stable);
-    find_stable(low, rules, n, i, on, stable);
-    note_words(low, stable, parting, i, needed, active, table);
+    find_stable(patterns, rules, n, i, on, stable);
+    note_words(patterns, stable, parting, i, needed, active, table);
 }

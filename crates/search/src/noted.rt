@@ -1,16 +1,16 @@
 // A set of atoms is taken into the entries of all numbers for which it is stable, where one number is served by another.
 ghost use Rattle.std.specs.Prelude.{◌≡◌, ℕ, ◌+◌, ◌*◌, ◌≤◌, ◌<◌, length, get_or};
-ghost use Rattle.lanes.specs.Cube.{Table};
 ghost use Rattle.lanes.specs.Planes.{◌in_plane◌};
 ghost use Rattle.search.specs.Shared.{server};
 ghost use Rattle.search.specs.Tried.{Tried};
 
+use lanes::cube::Patterns;
 use lanes::noted::note_word;
 
 // i is stable for the numbers that are served by those of a plane: the active ones of them that lack something it needs leave, and the others
 // take it in.
 pub fn note_words(
-    low: &[u64; 128],
+    patterns: &Patterns,
     stable: &[u64],
     parting: usize,
     i: u16,
@@ -18,13 +18,11 @@ pub fn note_words(
     active: &mut [u64],
     table: &mut [u16],
 )
-    requires { Table low.now × (length stable.now ≡ length active.old) × (length active.old ≤ 1024)
+    requires { (length stable.now ≡ length active.old) × (length active.old ≤ 1024)
         × (192 * length active.old ≤ length table.old) × ((g : ℕ) → g in_plane active.old → get_or table.old (3 * g + 2) 0 < 65535) }
     ensures { Tried (λ g. server parting g in_plane stable.now) i needed active.old table.old active.new table.new }
 {
-    let mut w = 0;
-    while w < active.len() {
-        note_word(low, w, stable[w & parting], i, needed, active, table);
-        w += 1;
+    for w in 0..active.len() {
+        note_word(patterns, w, stable[w & parting], i, needed, active, table);
     }
 }

@@ -8,10 +8,8 @@ pub fn relevant(rules: &[u16], n: usize) -> u16
     ensures { Relevant rules.now n result }
 {
     let mut all = 0;
-    let mut r = 0;
-    while r < n {
+    for r in 0..n {
         all = all | rules[4 * r + 2] | rules[4 * r + 3];
-        r += 1;
     }
     all
 }
@@ -22,11 +20,9 @@ pub fn share(active: &[u64], parting: usize, any: &mut [u64])
     ensures any_len_unchanged { length any.new ≡ length any.old }
     ensures shared_until { SharedUntil parting (length active.now) active.now any.new }
 {
-    let mut w = 0;
-    while w < active.len() {
+    for w in 0..active.len() {
         any[w] = 0;
         let c = w & parting;
         any[c] = any[c] | active[w];
-        w += 1;
     }
 }

@@ -1,39 +1,39 @@
 // The lanes in which a proper subset of a set is a model of the rules that are on there. `rules` has four words a rule, the first its
 // head and the second its plain atoms; `on` has a word a rule, the lanes in which it is on.
 ghost use Rattle.std.specs.Prelude.{◌+◌, ◌*◌, ◌≤◌, length, get_or};
-ghost use Rattle.sets.specs.Sets.{◌∈◌, ◌⊆◌, ◌∖◌, Meets};
+ghost use Rattle.sets.specs.Sets.{◌∈◌, ◌⊆◌, ◌∩◌, Meets};
 ghost use Rattle.lanes.specs.Lanes.{Lanes};
-ghost use Rattle.search.specs.Smaller.{HeadsWithin, Small};
+ghost use Rattle.search.specs.Smaller.{Small};
 ghost use Rattle.search.specs.Search.{Chosen};
 
 use lanes::smaller::fails;
 use sets::{Set, power};
 
-// An atom of the head of rule r that is not in `out`, alone; the empty set where there is none.
-fn choose(rules: &[u16], r: usize, out: u16) -> u16
+// An atom of the head of rule r that is in `from`, alone.
+fn choose(rules: &[u16], r: usize, from: u16) -> Option<u16>
     requires { 4 * r + 4 ≤ length rules.now }
-    ensures { Chosen (get_or rules.now (4 * r) 0 ∖ out) result }
+    ensures { Chosen (get_or rules.now (4 * r) 0 ∩ from) result }
 {
-    let rest = rules[4 * r].minus(out);
+    let rest = rules[4 * r] & from;
     if rest == 0 {
-        return 0;
+        return None;
     }
-    power(rest.first() as u16)
+    Some(power(rest.first() as u16))
 }
 
 // The lanes, of these, in which some proper subset of i that has every atom of j and no atom of `out` is a model of the rules that are on.
 // Where a rule that is on fails in j, an atom of its head is in the subset, or it is not.
 pub fn smaller(rules: &[u16], n: usize, on: &[u64], i: u16, j: u16, out: u16, lanes: u64) -> u64
-    requires { (4 * n ≤ length rules.now) × (n ≤ length on.now) × HeadsWithin rules.now n i × (j ⊆ i) × (Meets j out → ⊥) }
+    requires { (4 * n ≤ length rules.now) × (n ≤ length on.now) × (j ⊆ i) × (Meets j out → ⊥) }
     ensures { Lanes (λ b. (b ∈ lanes) × Small rules.now on.now n i j out b) result }
 {
     if j == i {
         return 0;
     }
+    let undecided = i.minus(j | out);
     let mut left = lanes;
     let mut found = 0;
-    let mut r = 0;
-    while r < n {
+    for r in 0..n {
         if left == 0 {
             return found;
         }
@@ -41,15 +41,13 @@ pub fn smaller(rules: &[u16], n: usize, on: &[u64], i: u16, j: u16, out: u16, la
         if these != 0 {
             if fails(rules, r, j) {
                 left = left.minus(these);
-                let a = choose(rules, r, out);
-                if a != 0 {
+                if let Some(a) = choose(rules, r, undecided) {
                     let with = smaller(rules, n, on, i, j | a, out, these);
                     let without = smaller(rules, n, on, i, j, out | a, these.minus(with));
                     found = found | with | without;
                 }
             }
         }
-        r += 1;
     }
     found | left
 }

@@ -1,21 +1,20 @@
-// For which numbers a set i is stable. Four words a rule: its head within i, its plain atoms, and the two sets that decide for which
+// For which numbers a set i is stable. Four words a rule: its head, its plain atoms, and the two sets that decide for which
 // numbers it is on, those that have no member of the first and every member of the second.
 ghost use Rattle.std.specs.Prelude.{◌≡◌, ◌+◌, ◌*◌, ◌≤◌, length};
 ghost use Rattle.sets.specs.Sets.{◌∈◌};
 ghost use Rattle.lanes.specs.Lanes.{Lanes};
-ghost use Rattle.lanes.specs.Cube.{Table};
 ghost use Rattle.lanes.specs.Planes.{◌in_plane◌, Plane};
 ghost use Rattle.lanes.specs.Stable.{StableFor};
-ghost use Rattle.search.specs.Smaller.{HeadsWithin};
 
 use super::smaller::smaller;
 use super::supported::supported;
+use lanes::cube::Patterns;
 use lanes::stable::{models, switch_on};
 use sets::Set;
 
 // The lanes, of these, of word w for which i is stable.
 pub fn stable_lanes(
-    low: &[u64; 128],
+    patterns: &Patterns,
     rules: &[u16],
     n: usize,
     i: u16,
@@ -23,17 +22,17 @@ pub fn stable_lanes(
     lanes: u64,
     on: &mut [u64],
 ) -> u64
-    requires { Table low.now × (4 * n ≤ length rules.now) × (n ≤ length on.old) × HeadsWithin rules.now n i }
+    requires { (4 * n ≤ length rules.now) × (n ≤ length on.old) }
     ensures { Lanes (λ b. (b ∈ lanes) × StableFor rules.now n i (64 * w + b)) result }
 {
     if lanes == 0 {
         return 0;
     }
-    let model = models(low, rules, n, w, lanes);
+    let model = models(patterns, rules, n, w, lanes);
     if model == 0 {
         return 0;
     }
-    switch_on(low, rules, n, w, model, on);
+    switch_on(patterns, rules, n, w, model, on);
     let left = supported(rules, n, on, i, model);
     let small = smaller(rules, n, on, i, 0, 0, left);
     left.minus(small)
@@ -41,21 +40,19 @@ pub fn stable_lanes(
 
 // Of the numbers of a plane those are left for which i is stable.
 pub fn find_stable(
-    low: &[u64; 128],
+    patterns: &Patterns,
     rules: &[u16],
     n: usize,
     i: u16,
     on: &mut [u64],
     plane: &mut [u64],
 )
-    requires { Table low.now × (4 * n ≤ length rules.now) × (n ≤ length on.old) × (length plane.old ≤ 1024) × HeadsWithin rules.now n i }
+    requires { (4 * n ≤ length rules.now) × (n ≤ length on.old) × (length plane.old ≤ 1024) }
     ensures on_len_unchanged { length on.new ≡ length on.old }
     ensures plane_len_unchanged { length plane.new ≡ length plane.old }
     ensures plane { Plane (λ g. (g in_plane plane.old) × StableFor rules.now n i g) plane.new }
 {
-    let mut w = 0;
-    while w < plane.len() {
-        plane[w] = stable_lanes(low, rules, n, i, w as u16, plane[w], on);
-        w += 1;
+    for w in 0..plane.len() {
+        plane[w] = stable_lanes(patterns, rules, n, i, w as u16, plane[w], on);
     }
 }

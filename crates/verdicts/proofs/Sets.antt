@@ -8,14 +8,12 @@ use Rattle.sets.specs.Lists.{◌among◌, up_to, among-map, among-up_to}
 use Rattle.sets.specs.Sets.{◌⊆◌, Meets}
 use Rattle.sets.specs.Members.{dec_meets}
 use Rattle.semantics.specs.AtSet.{need, GatheredRule, StableBy}
-use Rattle.semantics.proofs.Theorems.AtSet.{gathered_head}
 use Rattle.semantics.proofs.Theorems.Need.{need_by_set}
 use Rattle.guess.specs.declared.outline.Outline.{Outline}
 use Rattle.guess.specs.Programs.{unmasked_in, Outlines}
 use Rattle.guess.specs.Negations.{found_by}
 use Rattle.guess.specs.Numbered.{found_is}
 use Rattle.lanes.specs.Cube.{InCube}
-use Rattle.search.specs.Smaller.{HeadsWithin}
 use Rattle.lanes.specs.Stable.{StableFor}
 use Rattle.std.specs.Prelude.{Option, Some, None}
 use Rattle.gather.specs.Gathers.{rule_at, rules_at, at_set, GatheredAt}
@@ -64,7 +62,3 @@ module _ (x : Outline) (words : List ℕ) (i : ℕ) (room : List ℕ) (r : Optio
 
   pub some-rules : {n : ℕ} → r ≡ Some n → (n ≤ x.rules) × (rules_at room n ≡ at_set x words i)
   some-rules e = subst (GatheredAt x words i room) e is
-
-  -- their heads are within the set
-  pub heads_in : {n : ℕ} → r ≡ Some n → HeadsWithin room n i
-  heads_in {n} e = record { rule = λ k h. gathered_head (unmasked_in x words) i _ _ (subst (λ z. rule_at room k among z) (some-rules e).1 ((among_room room n).1 (k, h, refl))) }

@@ -3,7 +3,6 @@ ghost use Rattle.std.specs.Prelude.{◌≡◌, ℕ, ◌+◌, ◌*◌, ◌^◌, �
 ghost use Rattle.semantics.specs.Definitions.Sheet.{most_atoms};
 ghost use Rattle.semantics.specs.AtSet.{need, StableBy};
 ghost use Rattle.guess.specs.Programs.{unmasked_in, Outlines};
-ghost use Rattle.lanes.specs.Cube.{Table};
 ghost use Rattle.lanes.specs.Planes.{◌in_plane◌};
 ghost use Rattle.search.specs.Tried.{Tried};
 ghost use Rattle.gather.specs.Digests.{Digested};
@@ -15,7 +14,7 @@ use gather::digest::{Digest, digest_all};
 use gather::gather;
 use guess::negations::found;
 use guess::outline::Outline;
-use lanes::cube::patterns;
+use lanes::cube::Patterns;
 use search::note_rules;
 use sets::{Set, full, power};
 
@@ -26,20 +25,18 @@ fn clear(table: &mut [u16], guesses: usize, atoms: usize)
     ensures blank { Blank guesses atoms table.new }
 {
     let all = full(atoms as u16);
-    let mut g = 0;
-    while g < guesses {
+    for g in 0..guesses {
         let at = 3 * g;
         table[at] = all;
         table[at + 1] = 0;
         table[at + 2] = 0;
-        g += 1;
     }
 }
 
 // One set more: the active guesses for which it is stable, the day's masks aside, take it in, or leave where they lack something it needs. `room`, `on`
 // and `stable` are room to work in.
 fn note_set(
-    low: &[u64; 128],
+    patterns: &Patterns,
     words: &[u16],
     x: Outline,
     digests: &[Digest],
@@ -50,7 +47,7 @@ fn note_set(
     active: &mut [u64],
     table: &mut [u16],
 )
-    requires table { Table low.now × Outlines x words.now × Digested x words.now digests.now × (i < 2 ^ x.atoms) }
+    requires table { Outlines x words.now × Digested x words.now digests.now × (i < 2 ^ x.atoms) }
     requires rules_in_bounds { (4 * x.rules ≤ length room.old) × (x.rules ≤ length on.old) × (length stable.old ≡ length active.old) × (length active.old ≤ 1024) }
     requires active_in_bounds { (192 * length active.old ≤ length table.old) × ((g : ℕ) → g in_plane active.old → get_or table.old (3 * g + 2) 0 < 65535) }
     ensures room_len_unchanged { (length room.new ≡ length room.old) × (length on.new ≡ length on.old) × (length stable.new ≡ length stable.old) }
@@ -60,7 +57,7 @@ fn note_set(
     let Some(n) = gather(words, x, digests, i, needed, &mut room[..]) else {
         return;
     };
-    note_rules(low, &room[..], n, i, needed, on, stable, active, table);
+    note_rules(patterns, &room[..], n, i, needed, on, stable, active, table);
 }
 
 // All candidates, for the guesses of the plane `active`: no guess makes another set stable. `stable` is room to work in.
@@ -70,7 +67,7 @@ pub fn fill(words: &[u16], x: Outline, stable: &mut [u64], active: &mut [u64], t
     ensures active_len_unchanged { (length active.new ≡ length active.old) × (length table.new ≡ length table.old) }
     ensures filled { Filled x words.now active.old active.new table.new }
 {
-    let low = patterns();
+    let patterns = Patterns::new();
     let all = digest_all(words, x);
     let digests = &all[..x.rules];
     clear(&mut table[..], 64 * active.len(), x.atoms);
@@ -78,14 +75,13 @@ pub fn fill(words: &[u16], x: Outline, stable: &mut [u64], active: &mut [u64], t
     let mut room = [0u16; 284];
     let mut on = [0u64; 71];
     let mut sets = 0;
-    let mut i = 0;
-    while i != end {
+    for i in 0..end {
         if i % 64 == 0 {
-            sets = candidates(&low, words, x, digests, i / 64);
+            sets = candidates(&patterns, words, x, digests, i / 64);
         }
         if sets.has((i % 64) as u64) {
             note_set(
-                &low,
+                &patterns,
                 words,
                 x,
                 digests,
@@ -97,6 +93,5 @@ pub fn fill(words: &[u16], x: Outline, stable: &mut [u64], active: &mut [u64], t
                 &mut table[..],
             );
         }
-        i += 1;
     }
 }

@@ -5,7 +5,7 @@ ghost use Rattle.lanes.specs.Planes.{Plane};
 ghost use Rattle.ruling.specs.Free.{Free};
 
 use guess::outline::Outline;
-use lanes::cube::patterns;
+use lanes::cube::Patterns;
 use ruling::assumed::number;
 use ruling::free_lanes;
 
@@ -15,14 +15,12 @@ pub fn free_guesses(words: &[u16], x: Outline, free: &mut [u64], active: &mut [u
     ensures free_len_unchanged { (length free.new ≡ length free.old) × (length active.new ≡ length active.old) }
     ensures plane { Plane (Free x words.now) free.new × Plane (Free x words.now) active.new }
 {
-    let low = patterns();
+    let patterns = Patterns::new();
     let mut numbers = [0u16; 32];
     number(x, &mut numbers[..]);
-    let mut w = 0;
-    while w < free.len() {
-        let lanes = free_lanes(&low, words, x, &numbers[..], w as u16);
+    for w in 0..free.len() {
+        let lanes = free_lanes(&patterns, words, x, &numbers[..], w as u16);
         free[w] = lanes;
         active[w] = lanes;
-        w += 1;
     }
 }

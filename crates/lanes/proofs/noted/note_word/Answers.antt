@@ -19,7 +19,7 @@ note_lanes-requires c =
     let pre = c.requires in
     let old = get_or a.active.now a.w 0 in
     let x = c.cube-having.result in
-    (omega arith, λ b l m. pre.4 b l ((∈-∩ b a.stable old).0 ((∈-∩ b (a.stable ∩ old) x).0 m).0).1)
+    (omega arith, λ b l m. pre.3 b l ((∈-∩ b a.stable old).0 ((∈-∩ b (a.stable ∩ old) x).0 m).0).1)
 
 pub returns : goal.returns
 returns c =
@@ -28,4 +28,4 @@ returns c =
     let old = get_or a.active.now a.w 0 in
     let e = c.minus-2.ensures ∙ ap (λ z. old ∖ z) c.minus.ensures in
     let x = having a.needed a.w c.cube-having.ensures in
-    word_noted a.w a.stable a.i a.needed a.active.now a.table.now pre.1 x e c.note_lanes.ensures refl
+    word_noted a.w a.stable a.i a.needed a.active.now a.table.now pre.0 x e c.note_lanes.ensures refl

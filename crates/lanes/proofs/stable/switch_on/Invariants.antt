@@ -1,5 +1,5 @@
 -- `lanes::stable::switch_on` meets its contract. Assumes nothing.
-use Prim.Native.Nat.{◌-◌, ◌≤◌}
+use Prim.Native.Nat.{◌≤◌}
 use mathlib.Core.Path.{◌≡◌}
 use lib.ListN.{length}
 use Rattle.lanes.specs.Stable.{LanesOn}
@@ -7,6 +7,3 @@ use Rattle.lanes.proofs.stable.switch_on.Given as goal
 
 abbrev pub invariant-loop-r : goal.invariant-loop-r
 invariant-loop-r l = (l.r ≤ l.n) × (length l.on ≡ length l.initial.on) × LanesOn l.rules l.w l.lanes l.r l.on
-
-abbrev pub decreases-loop-r : goal.decreases-loop-r
-decreases-loop-r l = l.n - l.r

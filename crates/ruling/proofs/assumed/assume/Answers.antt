@@ -22,14 +22,14 @@ pub loop-a-init : goal.loop-a-init
 loop-a-init c = (omega arith, refl, assumed-none _ _ _ _)
 
 pub bounds-lanes-a : goal.bounds-lanes-a
-bounds-lanes-a c = in_long c.loop-a-test.true c.loop-a.invariant.1 c.requires.2
+bounds-lanes-a c = in_long c.loop-a-test.true c.loop-a.invariant.1 c.requires.1
 
 pub loop-a-preserved : goal.loop-a-preserved
 loop-a-preserved c =
     let l = c.loop-a in (
       next c.loop-a-test.true,
       length-set l.lanes _ _ ∙ l.invariant.1,
-      assumed-more (in_long c.loop-a-test.true l.invariant.1 c.requires.2) c.cube-left_out.ensures c.minus.ensures l.invariant.2,
+      assumed-more (in_long c.loop-a-test.true l.invariant.1 c.requires.1) c.cube-left_out.ensures c.minus.ensures l.invariant.2,
     )
 
 pub shape_of-lanes : goal.shape_of-lanes

@@ -23,7 +23,7 @@ note_word-requires c =
     let a = c.args in
     let pre = c.requires in
     let l = c.loop-w in
-    (pre.0, omega arith, omega arith, omega arith, until_room (λ g. server a.parting g in_plane a.stable.now) a.i a.needed a.active.now a.table.now l.invariant.3 pre.4)
+    (omega arith, omega arith, omega arith, until_room (λ g. server a.parting g in_plane a.stable.now) a.i a.needed a.active.now a.table.now l.invariant.3 pre.3)
 
 pub loop-w-preserved : goal.loop-w-preserved
 loop-w-preserved c =

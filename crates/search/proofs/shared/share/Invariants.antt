@@ -1,5 +1,5 @@
 -- `search::shared::share` meets its contract. Assumes nothing.
-use Prim.Native.Nat.{◌-◌, ◌≤◌}
+use Prim.Native.Nat.{◌≤◌}
 use mathlib.Core.Path.{◌≡◌}
 use lib.ListN.{length}
 use Rattle.search.specs.Shared.{SharedUntil}
@@ -7,6 +7,3 @@ use Rattle.search.proofs.shared.share.Given as goal
 
 abbrev pub invariant-loop-w : goal.invariant-loop-w
 invariant-loop-w l = (l.w ≤ length l.active) × (length l.any ≡ length l.initial.any) × SharedUntil l.parting l.w l.active l.any
-
-abbrev pub decreases-loop-w : goal.decreases-loop-w
-decreases-loop-w l = length l.active - l.w

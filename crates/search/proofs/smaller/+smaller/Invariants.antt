@@ -1,5 +1,5 @@
 -- `search::smaller::smaller` meets its contract. It ends since each call decides one more atom of i. Assumes nothing.
-use Rattle.std.proofs.Common.{◌-◌, ◌≤◌}
+use Rattle.std.proofs.Common.{◌≤◌}
 use Rattle.sets.specs.Sets.{size}
 use Rattle.search.specs.Search.{undecided, Searched}
 use Rattle.search.proofs.smaller.+smaller.Given as goal
@@ -10,6 +10,3 @@ decreases-smaller l = size (undecided l.i l.j l.out)
 
 abbrev pub invariant-loop-r : goal.invariant-loop-r
 invariant-loop-r l = (l.r ≤ l.n) × Searched l.rules l.on l.n l.i l.j l.out l.lanes l.r l.left l.found
-
-abbrev pub decreases-loop-r : goal.decreases-loop-r
-decreases-loop-r l = l.n - l.r

@@ -2,8 +2,7 @@
 use mathlib.Core.Path.{refl}
 use native.Mathlib.Omega.{arith}
 use lib.ListN.{length-set}
-use Rattle.lanes.specs.Planes.{◌in_plane◌, until_none, until_more, until_all}
-use Rattle.search.specs.Planes.{word_with}
+use Rattle.lanes.specs.Planes.{◌in_plane◌, until_none, until_more, until_all, word_with}
 use Rattle.lanes.specs.Stable.{StableFor}
 use borrow.Author.Rules.{rules}
 use Rattle.search.proofs.stable.find_stable.Goals as goal

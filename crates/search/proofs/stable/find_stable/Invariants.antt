@@ -1,5 +1,4 @@
 -- `search::stable::find_stable` meets its contract. Assumes nothing.
-use Prim.Native.Nat.{◌-◌}
 use mathlib.Core.Path.{◌≡◌}
 use lib.ListN.{length}
 use Rattle.lanes.specs.Planes.{◌in_plane◌, Until}
@@ -9,6 +8,3 @@ use Rattle.search.proofs.stable.find_stable.Given as goal
 abbrev pub invariant-loop-w : goal.invariant-loop-w
 invariant-loop-w l = (length l.on ≡ length l.initial.on) × (length l.plane ≡ length l.initial.plane)
     × Until (λ g. g in_plane l.initial.plane) (λ g. (g in_plane l.initial.plane) × StableFor l.rules l.n l.i g) l.w l.plane
-
-abbrev pub decreases-loop-w : goal.decreases-loop-w
-decreases-loop-w l = length l.initial.plane - l.w

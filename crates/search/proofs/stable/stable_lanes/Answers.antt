@@ -17,7 +17,7 @@ returns-then-model-eq0 c =
 pub smaller-small-requires : goal.smaller-small-requires
 smaller-small-requires c =
     let pre = c.requires in
-    (pre.1, search rules, pre.3, ∅-⊆, λ m. ∈-∅ m.right)
+    (pre.0, search rules, ∅-⊆, λ m. ∈-∅ m.right)
 
 pub returns : goal.returns
 returns c =
@@ -25,4 +25,4 @@ returns c =
     let model = c.models-model.ensures in
     let on = c.switch_on.ensures in
     lanes_is c.minus.ensures
-    (stable-some a.rules.now _ a.n a.i a.w a.lanes model c.requires.3 on c.supported-left.ensures c.smaller-small.ensures)
+    (stable-some a.rules.now _ a.n a.i a.w a.lanes model on c.supported-left.ensures c.smaller-small.ensures)

@@ -8,7 +8,7 @@ use Rattle.search.proofs.supported.supported.Goals as goal
 pub loop-rest-init : goal.loop-rest-init
 loop-rest-init c =
     let a = c.args in
-    (⊆_refl, c.support.ensures.supported_by, kept_all a.rules.now a.on.now a.n a.i a.lanes)
+    (⊆_refl, c.support.ensures.supported_by, kept_all a.rules.now a.on.now a.i a.n a.lanes)
 
 pub loop-rest-smaller : goal.loop-rest-smaller
 loop-rest-smaller c = let r = c.loop-rest.rest in omega (arith, ⊆_le (∩-⊆ r (r - 1)))
@@ -18,7 +18,7 @@ loop-rest-preserved c =
     let a = c.args in
     let l = c.loop-rest in
     let f = c.first.ensures.0 in
-    (⊆_trans (∩_⊆_left l.rest _) l.invariant.0, l.invariant.1, kept_more a.rules.now a.on.now l.invariant.1 (l.invariant.0.into f.is_in) l.invariant.2)
+    (⊆_trans (∩_⊆_left l.rest _) l.invariant.0, l.invariant.1, kept_more a.rules.now a.on.now a.i l.invariant.1 (l.invariant.0.into f.is_in) l.invariant.2)
 
 pub returns : goal.returns
 returns c = c.loop-rest.invariant.2

@@ -4,7 +4,7 @@ use Rattle.search.specs.Supported.{SupportedBy, Kept}
 use Rattle.search.proofs.supported.supported.Given as goal
 
 abbrev pub invariant-loop-rest : goal.invariant-loop-rest
-invariant-loop-rest l = (l.rest ⊆ l.i) × SupportedBy l.rules l.on l.n l.by × Kept l.rules l.on l.n l.i l.lanes l.left
+invariant-loop-rest l = (l.rest ⊆ l.i) × SupportedBy l.rules l.on l.i l.n l.by × Kept l.rules l.on l.i l.n l.lanes l.left
 
 abbrev pub decreases-loop-rest : goal.decreases-loop-rest
 decreases-loop-rest l = l.rest

@@ -27,7 +27,7 @@ loop-i-init c =
     (omega arith, refl, refl, refl, refl, after_none a.x a.words.now a.active.now c.clear.ensures.blank, λ h. absurd (omega arith))
 
 pub candidates-sets-requires : goal.candidates-sets-requires
-candidates-sets-requires c = (c.patterns-low.ensures, c.requires.0, c.digest_all-all.ensures)
+candidates-sets-requires c = (c.requires.0, c.digest_all-all.ensures)
 
 pub note_set-requires : goal.note_set-requires
 note_set-requires c =
@@ -36,16 +36,10 @@ note_set-requires c =
     let o = c.requires.0 in
     let table = c.clear.ensures.table_len_unchanged in
     let here : l.i < 2 ^ c.args.x.atoms = omega (arith, l.invariant.0, c.loop-i-test.true, end) in record {
-      table = (c.patterns-low.ensures, o, c.digest_all-all.ensures, here);
+      table = (o, c.digest_all-all.ensures, here);
       rules_in_bounds = (omega (arith, l.invariant.1, o.few_rules), omega (arith, l.invariant.2, o.few_rules), omega (arith, l.invariant.3, l.invariant.5.long, c.requires.2), omega (arith, l.invariant.5.long, c.requires.1));
       active_in_bounds = (omega (arith, l.invariant.4, table, l.invariant.5.long, c.requires.3), room_left c.args.x c.args.words.now c.args.active.now l.invariant.5 (omega (arith, here, few_sets o)));
     }
-
-pub overflow_add-i : goal.overflow_add-i
-overflow_add-i c = omega (arith, c.loop-i.invariant.0, c.loop-i-test.true)
-
-pub loop-i-smaller : goal.loop-i-smaller
-loop-i-smaller c = omega (arith, c.loop-i.invariant.0, c.loop-i-test.true)
 
 pub loop-i-preserved : goal.loop-i-preserved
 loop-i-preserved c =

@@ -21,16 +21,10 @@ overflow_cast-w c = omega (arith, c.requires.1, c.loop-w.invariant.1, c.loop-w-t
 pub free_lanes-lanes-requires : goal.free_lanes-lanes-requires
 free_lanes-lanes-requires c =
     let pre = c.requires in
-    (c.patterns-low.ensures, pre.0, omega (arith, c.number.ensures.numbers_len_unchanged), c.number.ensures.numbers, omega (arith, pre.1, c.loop-w.invariant.1, c.loop-w-test.true))
+    (pre.0, omega (arith, c.number.ensures.numbers_len_unchanged), c.number.ensures.numbers, omega (arith, pre.1, c.loop-w.invariant.1, c.loop-w-test.true))
 
 pub bounds-active-w : goal.bounds-active-w
 bounds-active-w c = let l = c.loop-w in omega (arith, l.invariant.1, l.invariant.2, c.requires.2, c.loop-w-test.true)
-
-pub overflow_add-w : goal.overflow_add-w
-overflow_add-w c = let l = c.loop-w in omega (arith, l.invariant.1, c.requires.1, c.loop-w-test.true)
-
-pub loop-w-smaller : goal.loop-w-smaller
-loop-w-smaller c = let l = c.loop-w in omega (arith, l.invariant.1, c.loop-w-test.true)
 
 pub loop-w-preserved : goal.loop-w-preserved
 loop-w-preserved c =
@@ -42,7 +36,7 @@ loop-w-preserved c =
       omega (arith, l.invariant.1, told),
       length-set l.free l.w _ ∙ l.invariant.1,
       length-set l.active l.w _ ∙ l.invariant.2,
-      until_more (λ g. g in_plane a.free.now) F l.w _ l.free told l.invariant.3 word,
+      until_more (λ g. g in_plane a.free.now) F l.w _ l.free (omega (arith, l.invariant.1, told)) l.invariant.3 word,
       until_more (λ g. g in_plane a.active.now) F l.w _ l.active (omega (arith, l.invariant.1, l.invariant.2, c.requires.2, told)) l.invariant.4 word,
     )
 

@@ -1,4 +1,4 @@
--- `lanes::cube::patterns` meets its contract: the patterns are those of specs, computed. Assumes nothing.
+-- `lanes::cube::Patterns::new` meets its contract: the patterns are those of specs, computed. Assumes nothing.
 use Prim.Native.Nat.{ℕ}
 use mathlib.Core.List.{List, [], ◌∷◌, map}
 use lib.Dec.{T}
@@ -6,7 +6,7 @@ use Rattle.sets.specs.Decides.{passed}
 use Rattle.sets.specs.Lists.{up_to, same_list, dec_same}
 use Rattle.sets.specs.Sets.{set_of}
 use Rattle.lanes.specs.Cube.{pattern, table_of}
-use Rattle.lanes.proofs.cube.patterns.Goals as goal
+use Rattle.lanes.proofs.cube.Patterns.new.Goals as goal
 
 listed : List ℕ
 listed =
@@ -47,6 +47,6 @@ same : T (same_list listed (map pattern (up_to 128)))
 unfolding listed same_list up_to set_of
 same = tt
 
-pub returns : goal.returns
+pub invariant_of-result : goal.invariant_of-result
 unfolding listed
-returns c = table_of listed (passed (dec_same listed (map pattern (up_to 128))) same)
+invariant_of-result c = record { table = table_of listed (passed (dec_same listed (map pattern (up_to 128))) same) }
