@@ -1,6 +1,6 @@
 // A listing that can be paused: its state goes in and comes back by value. The records of the views met stand in words lent beside it, and so does
 // the reduct of the guess that waits for its test.
-ghost use Rattle.std.specs.Prelude.{◌≡◌, true, false, ◌+◌, ◌*◌, ◌^◌, ◌<◌, ◌≤◌, length, get_or};
+ghost use Rattle.std.specs.Prelude.{◌≡◌, false, ℕ, Some, ◌+◌, ◌*◌, ◌^◌, ◌<◌, ◌≤◌, length, get_or};
 ghost use Rattle.semantics.specs.Definitions.Check.{most_negations};
 ghost use Rattle.semantics.specs.Definitions.Order.{members_below};
 ghost use Rattle.semantics.specs.Words.{program_room};
@@ -11,7 +11,7 @@ ghost use Rattle.guess.specs.Programs.{setting_in, Outlines};
 ghost use Rattle.records.specs.Records.{views_in, LargerFirst};
 ghost use Rattle.records.specs.Outcomes.{tally_from};
 ghost use Rattle.listing.specs.Walks.{walked_in};
-ghost use Rattle.listing.specs.Pauses.{fresh, Ready, Looked, Advanced, Along, Stands};
+ghost use Rattle.listing.specs.Pauses.{fresh, waits, Ready, Looked, Advanced, Along, Stands};
 
 use answers::Tally;
 use guess::outline::Outline;
@@ -21,14 +21,13 @@ use records::covered_by;
 use records::outcome::{Outcome, count, judged, note};
 use sets::power;
 
-// How many entries of the order are passed, and the six counts; whether the next guess is known to be one that is tested, and then how many
-// rules its reduct has.
+// How many entries of the order are passed, and the six counts; and where the next guess is known to be one that is tested, how many rules its
+// reduct has.
 #[derive(Clone, Copy)]
 pub struct Paused {
     pub at: usize,
     pub tally: Tally,
-    pub waits: bool,
-    pub rules: usize,
+    pub waiting: Option<usize>,
 }
 
 impl Paused {
@@ -46,15 +45,14 @@ impl Paused {
                 empty: 0,
                 other: 0,
             },
-            waits: false,
-            rules: 0,
+            waiting: None,
         }
     }
 
     // Before its test, a guess that no view met covers: where it is ruled it is counted; else it waits, its reduct in the program.
     fn look(mut self, words: &[u16], x: Outline, guess: u16, program: &mut [u16]) -> Self
         requires outlines { Outlines x words.now × (guess < 2 ^ x.negations) × (4 * program_room ≤ length program.old) }
-        requires waits_value { (self.waits ≡ false) × AtMost (tally_from self.tally) (2 ^ most_negations) }
+        requires waits_value { (waits self ≡ false) × AtMost (tally_from self.tally) (2 ^ most_negations) }
         ensures program_len_unchanged { length program.new ≡ length program.old }
         ensures looked { Looked x words.now guess self result program.new }
     {
@@ -64,33 +62,32 @@ impl Paused {
             self.tally = next;
             return self;
         }
-        self.rules = rules;
-        self.waits = true;
+        self.waiting = Some(rules);
         self
     }
 
-    // The test of the guess that waits; its record is written where it is a view.
+    // The test of the guess that waits, by the first rules of the program; its record is written where it is a view.
     fn test(
         mut self,
         words: &[u16],
         x: Outline,
         guess: u16,
+        rules: usize,
         program: &[u16],
         records: &mut [u16],
     ) -> Self
         requires outlines { Outlines x words.now × (guess < 2 ^ x.negations) × (4 * program_room ≤ length program.now) }
-        requires at_most { AtMost (tally_from self.tally) (2 ^ most_negations) × (4 * self.tally.views + 4 ≤ length records.old) × Ready x words.now guess (views_in records.old self.tally.views) program.now self.rules }
+        requires at_most { AtMost (tally_from self.tally) (2 ^ most_negations) × (4 * self.tally.views + 4 ≤ length records.old) × Ready x words.now guess (views_in records.old self.tally.views) program.now rules }
         ensures records_len_unchanged { length records.new ≡ length records.old }
-        ensures at_value { (result.at ≡ self.at) × (result.waits ≡ false) × (result.tally.tested ≡ self.tally.tested + 1) }
+        ensures at_value { (result.at ≡ self.at) × (waits result ≡ false) × (result.tally.tested ≡ self.tally.tested + 1) }
         ensures records_after { walked_in result.tally records.new ≡ advanceIn (setting_in x words.now) (walked_in self.tally records.old) guess }
     {
         let tally = self.tally;
-        let rules = self.rules;
         let outcome = judged(program, rules, x, guess);
         note(outcome, &mut records[4 * tally.views..]);
         let next = count(tally, outcome);
         self.tally = next;
-        self.waits = false;
+        self.waiting = None;
         self
     }
 
@@ -106,14 +103,14 @@ impl Paused {
     ) -> Self
         requires outlines { Outlines x words.now × (self.at < length order.now) × (get_or order.now self.at 0 < 2 ^ x.negations) × (4 * program_room ≤ length program.old) }
         requires at_most { AtMost (tally_from self.tally) (2 ^ most_negations) × (4 * self.tally.views + 4 ≤ length records.old) × LargerFirst records.old self.tally.views }
-        requires tested_le_most { (self.tally.tested ≤ most) × (self.waits ≡ true → Ready x words.now (get_or order.now self.at 0) (views_in records.old self.tally.views) program.old self.rules) }
+        requires tested_le_most { (self.tally.tested ≤ most) × ((rules : ℕ) → self.waiting ≡ Some rules → Ready x words.now (get_or order.now self.at 0) (views_in records.old self.tally.views) program.old rules) }
         ensures program_len_unchanged { length program.new ≡ length program.old }
         ensures records_len_unchanged { length records.new ≡ length records.old }
         ensures advanced { Advanced x words.now (get_or order.now self.at 0) most self records.old result program.new records.new }
     {
         let at = self.at;
         let guess = order[at];
-        if !self.waits {
+        if self.waiting.is_none() {
             let tally = self.tally;
             if covered_by(&records[..], tally.views, guess) {
                 let next = count(tally, Outcome::Covered);
@@ -123,12 +120,12 @@ impl Paused {
             }
             self = self.look(words, x, guess, &mut program[..]);
         }
-        if self.waits {
+        if let Some(rules) = self.waiting {
             let tally = self.tally;
             if tally.tested == most {
                 return self;
             }
-            self = self.test(words, x, guess, &program[..], &mut records[..]);
+            self = self.test(words, x, guess, rules, &program[..], &mut records[..]);
         }
         self.at = at + 1;
         self
@@ -151,14 +148,14 @@ impl Paused {
         ensures records_len_unchanged { length records.new ≡ length records.old }
         ensures along { Along x words.now order.now result program.new records.new }
         ensures stands { Stands (setting_in x words.now) order.now most result records.new }
-        ensures at_value { result.waits ≡ false → result.at ≡ length order.now }
+        ensures at_value { waits result ≡ false → result.at ≡ length order.now }
     {
         let end = power(x.negations as u16);
         while self.at < order.len() {
             let at = self.at;
             if order[at] < end {
                 self = self.advance(words, x, order, most, &mut program[..], &mut records[..]);
-                if self.waits {
+                if self.waiting.is_some() {
                     return self;
                 }
             } else {

@@ -7,7 +7,7 @@ ghost use Rattle.semantics.specs.Walk.{records_room, walk};
 ghost use Rattle.semantics.specs.Theorems.Order.{Enumerates};
 ghost use Rattle.guess.specs.Programs.{setting_in, Outlines};
 ghost use Rattle.listing.specs.Walks.{walked_in};
-ghost use Rattle.listing.specs.Pauses.{Along};
+ghost use Rattle.listing.specs.Pauses.{waits, Along};
 
 use super::paused::Paused;
 use super::rest::rest;
@@ -112,18 +112,17 @@ pub fn whole(
     ensures program_len_unchanged { length program.new ≡ length program.old }
     ensures records_len_unchanged { length records.new ≡ length records.old }
     ensures along { Along x words.now order.now result program.new records.new }
-    ensures waits_value { (result.waits ≡ false) × (result.at ≡ length order.now) }
+    ensures waits_value { (waits result ≡ false) × (result.at ≡ length order.now) }
 {
     let start = Paused::start();
     let first = start.reach(words, x, order, 1, &mut program[..], &mut records[..]);
-    if !first.waits {
+    if first.waiting.is_none() {
         return first;
     }
     let tally = finish(words, x, order, first.at, first.tally, &mut records[..]);
     Paused {
         at: order.len(),
         tally,
-        waits: false,
-        rules: 0,
+        waiting: None,
     }
 }

@@ -19,7 +19,7 @@ use Rattle.allowance.specs.Shares.{shares_long, share-at, share_tests}
 use Rattle.source.specs.declared.Source.{Source}
 use Rattle.listing.specs.declared.paused.Paused.{Paused}
 use Rattle.records.specs.Records.{views_in, views_in_long}
-use Rattle.listing.specs.Pauses.{fresh}
+use Rattle.listing.specs.Pauses.{fresh, waits}
 use Rattle.sharing.specs.Held.{setting_at, settings_in, Served, spent_in, Idle}
 use Rattle.sharing.specs.declared.sheets.Refusal.TheVariants.{At}
 use Rattle.sharing.specs.Refusals.{FitTo, FirstShort}
@@ -87,7 +87,7 @@ module _ (sources : List Source) (words' : List (List ℕ)) (n allowance : ℕ) 
       let x = is_share q h d in
       let inside : m ≤ length (tests_of s) = subst (λ z. m ≤ length (tests_of z)) (get_or-up_to (setting_at sources words') (setting_at sources words' 0) n q h)
       (subst (λ z. z.tests ≤ length (tests_of (get_or ss q (setting_at sources words' 0)))) x (share_tests allowance ss q (omega (arith, h, settings_long)) d (setting_at sources words' 0))) in
-      let finished : (get_or each q d).finished ≡ not (get_or states q fresh).waits = ap (λ z. z.finished) x ∙ sym (twice (finished_in s m)) ∙ ap not (sym (served q h).waits_where) in
+      let finished : (get_or each q d).finished ≡ not (waits (get_or states q fresh)) = ap (λ z. z.finished) x ∙ sym (twice (finished_in s m)) ∙ ap not (sym (served q h).waits_where) in
       let tests : (get_or each q d).tests ≡ (get_or states q fresh).tally.tested = ap (λ z. z.tests) x ∙ sym (length-take-le m (tests_of s) inside) ∙ sym (served q h).tests_are in
       λ i. record { finished = finished i; tests = tests i; views = sym (views_number q h d) i }
 

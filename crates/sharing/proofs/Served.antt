@@ -25,7 +25,7 @@ use Rattle.order.specs.Ordered.{table_enumerates}
 use Rattle.source.specs.declared.Source.{Source}
 use Rattle.source.specs.declared.Source.TheVariants.{Accepted, Refused}
 use Rattle.listing.specs.declared.paused.Paused.{Paused}
-use Rattle.listing.specs.Pauses.{fresh}
+use Rattle.listing.specs.Pauses.{fresh, waits}
 use Rattle.listing.proofs.Reaching.{few_counts, along_start}
 use Rattle.sharing.specs.Held.{unread, setting_from, IsRead, Goes, Has, setting_at, settings_in, AllRead, AllGo, HasAt, Near, Served, spent_in, FewAll, Idle, Rounded}
 use Rattle.sharing.proofs.Rounded.{four_spent}
@@ -150,9 +150,9 @@ module _ (sources : List Source) (words : List (List ℕ)) (n : ℕ) where
 
   -- all are finished
   pub served_all : (states : List Paused) (records : List (List ℕ)) → length states ≡ 4 → n ≤ 4 → Idle n states → (r allowance : ℕ)
-      → ((q : ℕ) → q < n → HasAt sources words r states records q) → ((q : ℕ) → q < n → (get_or states q fresh).waits ≡ false) → spent_in states ≤ allowance
+      → ((q : ℕ) → q < n → HasAt sources words r states records q) → ((q : ℕ) → q < n → waits (get_or states q fresh) ≡ false) → spent_in states ≤ allowance
       → Served sources words n allowance states records × (spent_in states ≡ length (paid allowance (settings_in sources words n)))
-  served_all states records four few idle r allowance all waits le =
+  served_all states records four few idle r allowance all ended le =
       served_by states records four few idle r 0 (omega arith) mixed allowance
       (done_all many r allowance (λ q h. finished q (omega (arith, h, as_many))) (omega (arith, le, spent states records four few idle r 0 (omega arith) mixed)))
     where
@@ -161,17 +161,17 @@ module _ (sources : List Source) (words : List (List ℕ)) (n : ℕ) where
 
       finished : (q : ℕ) → q < n → get_or many q 0 ≤ r
       finished q h =
-          omega (arith, many_is q h, (finished_many (setting_at sources words q) r).0 (not-false (finished_in (setting_at sources words q) r) (sym (all q h).waits_where ∙ waits q h)))
+          omega (arith, many_is q h, (finished_many (setting_at sources words q) r).0 (not-false (finished_in (setting_at sources words q) r) (sym (all q h).waits_where ∙ ended q h)))
 
   -- all are finished where each had as many tests as there are guesses
   pub served_end : (order : List ℕ) → order ≡ order_of table_width → AllRead sources words n → (states : List Paused) (programs records : List (List ℕ)) → length states ≡ 4 → n ≤ 4 → Idle n states
       → AllGo sources words order n states programs records → (allowance : ℕ) → 4 * 2 ^ most_negations ≤ allowance → ((q : ℕ) → q < n → HasAt sources words (2 ^ most_negations) states records q)
       → Served sources words n allowance states records × (spent_in states ≡ length (paid allowance (settings_in sources words n)))
   served_end order is read states programs records four few idle go allowance enough all =
-      served_all states records four few idle (2 ^ most_negations) allowance all waits (omega (arith, four_spent states four, at 0, at 1, at 2, at 3, enough))
+      served_all states records four few idle (2 ^ most_negations) allowance all ended (omega (arith, four_spent states four, at 0, at 1, at 2, at 3, enough))
     where
-      waits : (q : ℕ) → q < n → (get_or states q fresh).waits ≡ false
-      waits q h =
+      ended : (q : ℕ) → q < n → waits (get_or states q fresh) ≡ false
+      ended q h =
           let s = setting_at sources words q in
           let most : length (tests_of s) ≤ 2 ^ most_negations = omega (arith, tests_fit s, pow_mono (few_guesses (get_or sources q unread) (get_or words q []) (read q h))) in
           (all q h).waits_where ∙ ap not ((finished_many s (2 ^ most_negations)).1 most)
@@ -201,7 +201,7 @@ module _ (sources : List Source) (words : List (List ℕ)) (order : List ℕ) (n
 
   -- one that waits has a guess left
   pub waits_below : AllRead sources words n → (t : ℕ) (states : List Paused) (records : List (List ℕ)) → ((q : ℕ) → q < n → HasAt sources words t states records q)
-      → (q : ℕ) × (q < n) × ((get_or states q fresh).waits ≡ true) → t < 2 ^ most_negations
+      → (q : ℕ) × (q < n) × (waits (get_or states q fresh) ≡ true) → t < 2 ^ most_negations
   waits_below read t states records all (q, h, e) =
       let s = setting_at sources words q in
       let open' : finished_in s t ≡ false = not-true (finished_in s t) (sym (all q h).waits_where ∙ e) in

@@ -18,7 +18,7 @@ use Rattle.guess.specs.Programs.{setting_in, Outlines}
 use Rattle.source.specs.declared.Source.{Source}
 use Rattle.listing.specs.declared.paused.Paused.{Paused}
 use Rattle.records.specs.Records.{views_in}
-use Rattle.listing.specs.Pauses.{fresh, Along, Stands}
+use Rattle.listing.specs.Pauses.{fresh, waits, Along, Stands}
 use Rattle.listing.proofs.Reaching.{few_counts, at_end}
 use Rattle.sharing.specs.Held.{unread, setting_at, Goes, Has, spent_in, Turned}
 
@@ -29,8 +29,8 @@ unfolding tests_of met_in finished_in
 has_of {x} {words} o l is t p records stands =
     let s = setting_in x words in
     let few : k s ≤ table_width = omega (arith, o.counted, o.few_negations) in
-    let h : StandsAt s (order_of (k s)) t p.tally.tested (views_in records p.tally.views) p.waits =
-    subst (λ m. StandsAt s m t p.tally.tested (views_in records p.tally.views) p.waits) (table-members is few) stands in
+    let h : StandsAt s (order_of (k s)) t p.tally.tested (views_in records p.tally.views) (waits p) =
+    subst (λ m. StandsAt s m t p.tally.tested (views_in records p.tally.views) (waits p)) (table-members is few) stands in
     record {
       tests_are = h.tests_are;
       views_are = h.met_are;

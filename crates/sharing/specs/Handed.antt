@@ -5,7 +5,7 @@ use Rattle.semantics.specs.Definitions.Listing.{words}
 use Rattle.semantics.specs.Definitions.Sharing.{Numbers, Carried}
 use Rattle.listing.specs.declared.paused.Paused.{Paused}
 use Rattle.records.specs.Records.{views_in}
-use Rattle.listing.specs.Pauses.{fresh}
+use Rattle.listing.specs.Pauses.{fresh, waits}
 use Rattle.sharing.specs.Held.{spent_in}
 
 -- one for each sheet
@@ -14,7 +14,7 @@ four a b c d = a ∷ b ∷ c ∷ d ∷ []
 
 -- the numbers of one
 abbrev pub numbers_at : Paused → Numbers
-numbers_at p = record { finished = not p.waits; tests = p.tally.tested; views = p.tally.views }
+numbers_at p = record { finished = not (waits p); tests = p.tally.tested; views = p.tally.views }
 
 -- of all
 abbrev pub carried_in : List Paused → Carried

@@ -11,7 +11,7 @@ use Rattle.source.specs.declared.Source.TheVariants.{Accepted, Refused}
 use Rattle.source.specs.Sources.{Reads}
 use Rattle.listing.specs.declared.paused.Paused.{Paused}
 use Rattle.records.specs.Records.{views_in}
-use Rattle.listing.specs.Pauses.{fresh, Along}
+use Rattle.listing.specs.Pauses.{fresh, waits, Along}
 
 -- ---- a sheet
 -- what stands for no sheet
@@ -37,7 +37,7 @@ Goes (Refused number place) words order p program records = ⊥
 pub record Has (s : Setting) (t : ℕ) (p : Paused) (records : List ℕ) : Type 0 where
   pub tests_are : p.tally.tested ≡ length (take t (tests_of s))
   pub views_are : views_in records p.tally.views ≡ met_in s t
-  pub waits_where : p.waits ≡ not (finished_in s t)
+  pub waits_where : waits p ≡ not (finished_in s t)
 
 -- ---- the sheets, by position
 module _ (sources : List Source) (words : List (List ℕ)) where

@@ -20,7 +20,7 @@ fn share_of(paused: Paused) -> Share
 {
     let tally = paused.tally;
     Share {
-        finished: !paused.waits,
+        finished: paused.waiting.is_none(),
         tests: tally.tested,
         views: tally.views,
     }

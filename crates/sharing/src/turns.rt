@@ -7,7 +7,7 @@ ghost use Rattle.semantics.specs.Words.{program_room};
 ghost use Rattle.semantics.specs.Walk.{records_room};
 ghost use Rattle.semantics.specs.Definitions.Sharing.{paid};
 ghost use Rattle.order.specs.Table.{table_width};
-ghost use Rattle.listing.specs.Pauses.{fresh};
+ghost use Rattle.listing.specs.Pauses.{fresh, waits};
 ghost use Rattle.sharing.specs.Held.{setting_from, IsRead, Goes, Has, settings_in, AllRead, AllGo, HasAt, Near, Served, spent_in, FewAll, Idle, Rounded};
 
 use listing::paused::Paused;
@@ -134,11 +134,11 @@ fn to_the_end(
 // Does one of the first n sheets wait for a test?
 fn some_waits(n: usize, states: [Paused; 4]) -> bool
     requires { (n ≤ 4) × (length states ≡ 4) }
-    ensures { Decides ((q : ℕ) × (q < n) × ((get_or states q fresh).waits ≡ true)) result }
+    ensures { Decides ((q : ℕ) × (q < n) × (waits (get_or states q fresh) ≡ true)) result }
 {
     for p in 0..n {
         let paused = states[p];
-        if paused.waits {
+        if paused.waiting.is_some() {
             return true;
         }
     }

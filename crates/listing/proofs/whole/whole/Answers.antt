@@ -1,7 +1,7 @@
 -- `listing::whole::whole` meets its contract. Assumes nothing.
 use mathlib.Core.Path.{refl, sym, ap, ◌∙◌, subst}
 use native.Mathlib.Omega.{arith}
-use borrow.Author.Tests.{not-true}
+use mathlib.Core.Bool.{not}
 use Rattle.listing.specs.Pauses.{Along}
 use Rattle.listing.proofs.Reaching.{along_start, along_end}
 use Rattle.listing.proofs.whole.whole.Goals as goal
@@ -19,16 +19,16 @@ reach-first-requires c =
       );
     }
 
-pub shape_of-program-then-not-first : goal.shape_of-program-then-not-first
-shape_of-program-then-not-first c = c.reach-first.ensures.program_len_unchanged
+pub shape_of-program-then-is_none : goal.shape_of-program-then-is_none
+shape_of-program-then-is_none c = c.reach-first.ensures.program_len_unchanged
 
-pub shape_of-records-then-not-first : goal.shape_of-records-then-not-first
-shape_of-records-then-not-first c = c.reach-first.ensures.records_len_unchanged
+pub shape_of-records-then-is_none : goal.shape_of-records-then-is_none
+shape_of-records-then-is_none c = c.reach-first.ensures.records_len_unchanged
 
-pub returns-then-not-first : goal.returns-then-not-first
-returns-then-not-first c =
+pub returns-then-is_none : goal.returns-then-is_none
+returns-then-is_none c =
     let r = c.reach-first.ensures in
-    let done = not-true _ c.if-not-first.true in
+    let done = c.is_none.ensures ∙ ap not c.if-is_none.true in
     record {
       program_len_unchanged = r.program_len_unchanged;
       records_len_unchanged = r.records_len_unchanged;

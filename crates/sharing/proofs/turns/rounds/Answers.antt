@@ -7,7 +7,7 @@ use native.Mathlib.Omega.{arith}
 use lib.ListN.{get_or}
 use Rattle.sets.specs.Decides.{is_false, dec_self}
 use Rattle.semantics.specs.Definitions.Check.{most_negations}
-use Rattle.listing.specs.Pauses.{fresh}
+use Rattle.listing.specs.Pauses.{fresh, waits}
 use Rattle.sharing.proofs.Served.{served_spent, served_all, served_end, few_all, near_next, waits_below, idle_next, mixed_next, all_next, first-fresh, go_first, near_first, none_spent, all_first, idle_first}
 use Rattle.sharing.proofs.turns.rounds.Goals.{Else-not-some_waits}
 use Rattle.sharing.proofs.turns.rounds.Goals as goal
@@ -78,8 +78,8 @@ returns-then-not-some_waits c =
     let l = c.loop-left in
     let b = l.invariant.2 in
     let none = c.some_waits.ensures.no c.if-not-some_waits.true in
-    let waits : (q : ℕ) → q < a.n → (get_or l.states q fresh).waits ≡ false = λ q h. is_false (dec_self (get_or l.states q fresh).waits) (λ e. none (q, h, e)) in
-    let (served, spent) = served_all a.sources a.words.now a.n l.states l.records b.four pre.0 b.idle l.t a.allowance (b.each (omega (arith, c.loop-left-test.true))) waits (omega (arith, b.in_all)) in
+    let ended : (q : ℕ) → q < a.n → waits (get_or l.states q fresh) ≡ false = λ q h. is_false (dec_self (waits (get_or l.states q fresh))) (λ e. none (q, h, e)) in
+    let (served, spent) = served_all a.sources a.words.now a.n l.states l.records b.four pre.0 b.idle l.t a.allowance (b.each (omega (arith, c.loop-left-test.true))) ended (omega (arith, b.in_all)) in
     record {
       programs_len_unchanged = l.invariant.0 ∙ c.round-states.ensures.programs_len_unchanged;
       records_len_unchanged = l.invariant.1 ∙ c.round-states.ensures.records_len_unchanged;

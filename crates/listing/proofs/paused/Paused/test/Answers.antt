@@ -33,6 +33,6 @@ returns c =
     let o = outcome_from c.judged-outcome.result in
     let put = part-written (4 * t.views) a.records.now (words (views_by o)) c.note.ensures in record {
       records_len_unchanged = ap length put ∙ placed_long (4 * t.views) a.records.now (words (views_by o)) (omega (arith, words_few o, pre.at_most.1));
-      at_value = (refl, refl, ap (λ z. z.tested) c.count-next.ensures ∙ one_test (tally_from t) a.guess (verdict (setting_by a.x (program_in a.program.now a.self.rules)) a.guess) c.judged-outcome.ensures);
+      at_value = (refl, refl, ap (λ z. z.tested) c.count-next.ensures ∙ one_test (tally_from t) a.guess (verdict (setting_by a.x (program_in a.program.now a.rules)) a.guess) c.judged-outcome.ensures);
       records_after = advanced s t _ a.records.now _ a.guess o (omega (arith, pre.at_most.1)) (tested_as pre.outlines.0 pre.at_most.2 c.judged-outcome.ensures) c.count-next.ensures put;
     }
