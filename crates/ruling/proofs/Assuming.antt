@@ -1,11 +1,10 @@
 -- What a guess assumes, lane by lane: a negation is in the guess exactly when its number is. Assumes nothing.
 use Prim.Native.Nat.{ℕ, ◌+◌, ◌*◌, ◌<◌}
-use mathlib.Core.Path.{◌≡◌, sym, ap, subst, ◌∙◌}
+use mathlib.Core.Path.{◌≡◌, sym, ap, subst}
 use mathlib.Core.Bool.{Bool}
 use mathlib.Core.List.{List}
 use mathlib.Core.Logic.{◌↔◌, ⊎_elim}
 use native.Mathlib.Omega.{arith}
-use lib.ListN.{get_or}
 use Rattle.sets.specs.Decides.{Decides, unequal, is_true, decided, dec_iff, dec_not, dec_eq}
 use Rattle.sets.specs.Lists.{get_or-among}
 use Rattle.sets.specs.Sets.{◌∈◌, Meets, ◌∖◌, ∅, full, single}
@@ -20,7 +19,8 @@ use Rattle.guess.specs.declared.outline.Outline.{Outline}
 use Rattle.guess.specs.Programs.{unmasked_in, Outlines}
 use Rattle.guess.specs.Negations.{found_by}
 use Rattle.guess.specs.Numbered.{rules_of, found_is}
-use Rattle.ruling.specs.Assumed.{Numbers, AssumedIn}
+use Rattle.ruling.specs.declared.assumed.Numbers.{Numbers}
+use Rattle.ruling.specs.Assumed.{NumbersOf, AssumedIn}
 use Rattle.ruling.proofs.Sides.{Assumed}
 
 -- the guess found where all atoms but a are known, and none possible, has "not K a" alone
@@ -61,12 +61,12 @@ module _ {x : Outline} {words : List ℕ} (o : Outlines x words) where
         d : Decides ((j : ℕ) × (j < k (unmasked_in x words)) × ((j ∈ g) × (negation (unmasked_in x words) j ≡ e))) (assumed (unmasked_in x words).negations g e)
         d = dec_assumed (unmasked_in x words).negations g e
 
-  pub lane_assumes : {numbers u p : List ℕ} {w b : ℕ} → Numbers x x.atoms numbers → AssumedIn numbers 0 w 16 u → AssumedIn numbers 16 w 16 p → b < 64
+  pub lane_assumes : {numbers : Numbers} {u p : List ℕ} {w b : ℕ} → NumbersOf x x.atoms numbers → AssumedIn numbers.unknown w 16 u → AssumedIn numbers.maybe w 16 p → b < 64
       → Assumed x words (64 * w + b) b u p
-  lane_assumes {numbers} {w = w} {b} s v m l = record {
+  lane_assumes {w = w} {b = b} s v m l = record {
     unknown = λ {a} h.
         let f = (v.word (up h)).lane l in
-        let e : get_or numbers (0 + a) 0 ≡ found_by x (full x.atoms ∖ single a) ∅ = from_zero a ∙ s.unknown h in
+        let e = s.unknown h in
         let q = meets-found (full x.atoms ∖ single a) ∅ (64 * w + b) (not_known a) (λ j i. has-unknown x.atoms a _ (atom_below j i)) in
         (λ y. q.0 (subst (λ z. Meets z (64 * w + b)) e (f.0 y)), λ y. f.1 (subst (λ z. Meets z (64 * w + b)) (sym e) (q.1 y)));
     maybe = λ {a} h.
@@ -78,6 +78,3 @@ module _ {x : Outline} {words : List ℕ} (o : Outlines x words) where
     where
       up : {a : ℕ} → a < x.atoms → a < 16
       up h = omega (arith, o.few_atoms)
-
-      from_zero : (a : ℕ) → get_or numbers (0 + a) 0 ≡ get_or numbers a 0
-      from_zero a = let e : 0 + a ≡ a = omega arith in ap (λ z. get_or numbers z 0) e

@@ -25,7 +25,8 @@ use Rattle.lanes.specs.Cube.{InCube}
 use Rattle.lanes.specs.Planes.{Word}
 use Rattle.ruling.specs.Literals.{InSome}
 use Rattle.ruling.specs.Contradiction.{ClashAt, RuledOutIn}
-use Rattle.ruling.specs.Assumed.{Numbers, AssumedIn}
+use Rattle.ruling.specs.declared.assumed.Numbers.{Numbers}
+use Rattle.ruling.specs.Assumed.{NumbersOf, AssumedIn}
 use Rattle.ruling.specs.Free.{Free}
 use Rattle.ruling.proofs.Sides.{Assumed, At, Sides, sides}
 use Rattle.ruling.proofs.Stages.{sure-rules, at_last}
@@ -53,14 +54,11 @@ clash_side h p q = (
 )
 
 -- a mask and a set that a list of words says of lane b
-meets_side : {b m y : ℕ} (l : List ℕ) → m < 2 ^ 16 → ((a : ℕ) → a < 16 → b ∈ get_or l a 0 ↔ a ∈ y) → InSome m l 0 b ↔ Meets m y
+meets_side : {b m y : ℕ} (l : List ℕ) → m < 2 ^ 16 → ((a : ℕ) → a < 16 → b ∈ get_or l a 0 ↔ a ∈ y) → InSome m l b ↔ Meets m y
 meets_side {b} {m} {y} l small f = (
-  λ p. record { common = p.0; left = p.1; right = (f p.0 (∈_below small p.1)).0 (subst (λ z. b ∈ get_or l z 0) (zero_first p.0) p.2) },
-  λ p. (p.common, p.left, subst (λ z. b ∈ get_or l z 0) (sym (zero_first p.common)) ((f p.common (∈_below small p.left)).1 p.right)),
+  λ p. record { common = p.0; left = p.1; right = (f p.0 (∈_below small p.1)).0 p.2 },
+  λ p. (p.common, p.left, (f p.common (∈_below small p.left)).1 p.right),
 )
-  where
-    zero_first : (a : ℕ) → 0 + a ≡ a
-    zero_first a = omega arith
 
 module _ {x : Outline} {words : List ℕ} (o : Outlines x words) where
   -- the atoms under K or "not K", and under M or "not M"
@@ -112,7 +110,7 @@ module _ {x : Outline} {words : List ℕ} (o : Outlines x words) where
         m_clash l = clash_side (h.maybe l) (at.in_f (up l)) (at.in_t (up l))
 
   -- ---- the lanes of word w
-  pub free_word : {numbers u p : List ℕ} {w z guesses bad lanes : ℕ} → Numbers x x.atoms numbers → AssumedIn numbers 0 w 16 u → AssumedIn numbers 16 w 16 p → w < 64
+  pub free_word : {numbers : Numbers} {u p : List ℕ} {w z guesses bad lanes : ℕ} → NumbersOf x x.atoms numbers → AssumedIn numbers.unknown w 16 u → AssumedIn numbers.maybe w 16 p → w < 64
       → z ≡ full 15 ∖ full x.negations → Lanes (λ b. InCube z ∅ (64 * w + b)) guesses → RuledOutIn x words u p bad → lanes ≡ guesses ∖ bad → Word (Free x words) w lanes
   free_word {w = w} {z} {guesses} {bad} s v m small e c r q =
       lanes_is q (record {

@@ -20,6 +20,7 @@ use Rattle.guess.specs.declared.outline.Outline.{Outline}
 use Rattle.guess.specs.Numbered.{rules_of}
 use Rattle.guess.specs.Programs.{Outlines}
 use Rattle.ruling.specs.Literals.{InAll, InSome, head_in, SureIn, DeadIn, by_plain, by_nots, by_not_nots, by_k, by_not_k, by_m, by_not_m}
+use Rattle.ruling.specs.declared.literals.Rows.{Rows}
 use Rattle.ruling.specs.Laid.{Laid}
 
 -- ---- words of lanes
@@ -49,25 +50,22 @@ module _ (x : Outline) (words : List ℕ) (g b : ℕ) where
     pub in_f : {a : ℕ} → a < 16 → b ∈ get_or f a 0 ↔ a ∈ y.F
 
   -- and the literals
-  pub record Sides (y : Pair) (truths falsities : List ℕ) : Type 0 where
-    pub in_t : {a : ℕ} → a < x.atoms → b ∈ get_or truths (0 + a) 0 ↔ a ∈ y.T
-    pub in_f : {a : ℕ} → a < x.atoms → b ∈ get_or falsities (0 + a) 0 ↔ a ∈ y.F
-    pub is_k : {a : ℕ} → a < x.atoms → b ∈ get_or truths (16 + a) 0 ↔ SureLiteral (Assumes x.atoms (rules_of x words) g (not_known a)) K y a
-    pub is_not_k : {a : ℕ} → a < x.atoms → b ∈ get_or falsities (32 + a) 0 ↔ SureLiteral (Assumes x.atoms (rules_of x words) g (not_known a)) not_k y a
-    pub is_m : {a : ℕ} → a < x.atoms → b ∈ get_or truths (32 + a) 0 ↔ SureLiteral (Assumes x.atoms (rules_of x words) g (may_be a)) M y a
-    pub is_not_m : {a : ℕ} → a < x.atoms → b ∈ get_or falsities (16 + a) 0 ↔ SureLiteral (Assumes x.atoms (rules_of x words) g (may_be a)) not_m y a
+  pub record Sides (y : Pair) (truths falsities : Rows) : Type 0 where
+    pub in_t : {a : ℕ} → a < x.atoms → b ∈ get_or truths.whole a 0 ↔ a ∈ y.T
+    pub in_f : {a : ℕ} → a < x.atoms → b ∈ get_or falsities.whole a 0 ↔ a ∈ y.F
+    pub is_k : {a : ℕ} → a < x.atoms → b ∈ get_or truths.without a 0 ↔ SureLiteral (Assumes x.atoms (rules_of x words) g (not_known a)) K y a
+    pub is_not_k : {a : ℕ} → a < x.atoms → b ∈ get_or falsities.with a 0 ↔ SureLiteral (Assumes x.atoms (rules_of x words) g (not_known a)) not_k y a
+    pub is_m : {a : ℕ} → a < x.atoms → b ∈ get_or truths.with a 0 ↔ SureLiteral (Assumes x.atoms (rules_of x words) g (may_be a)) M y a
+    pub is_not_m : {a : ℕ} → a < x.atoms → b ∈ get_or falsities.without a 0 ↔ SureLiteral (Assumes x.atoms (rules_of x words) g (may_be a)) not_m y a
 
   same_side : {v w : ℕ} {P : Type 0} → v ≡ w → b ∈ w ↔ P → b ∈ v ↔ P
   same_side e p = (λ m. p.0 (subst (λ z. b ∈ z) e m), λ q. subst (λ z. b ∈ z) (sym e) (p.1 q))
 
-  from_zero : (l : List ℕ) (a : ℕ) → get_or l (0 + a) 0 ≡ get_or l a 0
-  from_zero l a = let e : 0 + a ≡ a = omega arith in ap (λ z. get_or l z 0) e
-
-  pub sides : {y : Pair} {u p t f truths falsities : List ℕ} → x.atoms ≤ 15 → Assumed u p → At y t f → Laid t u p 16 truths → Laid f p u 16 falsities
+  pub sides : {y : Pair} {u p t f : List ℕ} {truths falsities : Rows} → x.atoms ≤ 15 → Assumed u p → At y t f → Laid t u p 16 truths → Laid f p u 16 falsities
       → Sides y truths falsities
-  sides {truths = truths} {falsities} few h s v w = record {
-    in_t = λ {a} l. same_side (from_zero truths a ∙ v.whole (up l)) (s.in_t (up l));
-    in_f = λ {a} l. same_side (from_zero falsities a ∙ w.whole (up l)) (s.in_f (up l));
+  sides few h s v w = record {
+    in_t = λ {a} l. same_side (v.whole (up l)) (s.in_t (up l));
+    in_f = λ {a} l. same_side (w.whole (up l)) (s.in_f (up l));
     is_k = λ l. minus_side (v.without (up l)) (s.in_t (up l)) (h.unknown l);
     is_not_k = λ l. plus_side (w.with (up l)) (s.in_f (up l)) (h.unknown l);
     is_m = λ l. plus_side (v.with (up l)) (s.in_t (up l)) (h.maybe l);
@@ -91,44 +89,44 @@ module _ {x : Outline} {words : List ℕ} (o : Outlines x words) {j : ℕ} (here
   pub mask_below : (i : ℕ) → get_or (masks_in words j) i 0 < 2 ^ x.atoms
   mask_below i = get_or_below x.atoms (masks_in words j) (o.below (masks_in words j) ((among-rules words x.rules).1 (j, here, refl))) i
 
-  -- the atoms of mask i, as the words from a place say them
-  module _ (b i : ℕ) (h : i < 8) (rows : List ℕ) (from : ℕ) (P : ℕ → Type 0) (f : (a : ℕ) → a < x.atoms → b ∈ get_or rows (from + a) 0 ↔ P a) where
-    all_side : InAll (mask_in words j i) rows from b ↔ ((a : ℕ) → a ∈ get_or (masks_in words j) i 0 → P a)
+  -- the atoms of mask i, as a row of words says them
+  module _ (b i : ℕ) (h : i < 8) (row : List ℕ) (P : ℕ → Type 0) (f : (a : ℕ) → a < x.atoms → b ∈ get_or row a 0 ↔ P a) where
+    all_side : InAll (mask_in words j i) row b ↔ ((a : ℕ) → a ∈ get_or (masks_in words j) i 0 → P a)
     all_side = (
       λ p a m. (f a (∈_below (mask_below i) m)).0 (p a (subst (λ z. a ∈ z) (mask_is i h) m)),
       λ p a m. let k = subst (λ z. a ∈ z) (sym (mask_is i h)) m in (f a (∈_below (mask_below i) k)).1 (p a k),
     )
 
-    some_side : InSome (mask_in words j i) rows from b ↔ ((a : ℕ) × (a ∈ get_or (masks_in words j) i 0) × P a)
+    some_side : InSome (mask_in words j i) row b ↔ ((a : ℕ) × (a ∈ get_or (masks_in words j) i 0) × P a)
     some_side = (
       λ p. let k = subst (λ z. p.0 ∈ z) (sym (mask_is i h)) p.1 in (p.0, k, (f p.0 (∈_below (mask_below i) k)).0 p.2),
       λ p. (p.0, subst (λ z. p.0 ∈ z) (mask_is i h) p.1, (f p.0 (∈_below (mask_below i) p.1)).1 p.2),
     )
 
-  module _ {g b : ℕ} {y : Pair} {truths falsities : List ℕ} (s : Sides x words g b y truths falsities) where
+  module _ {g b : ℕ} {y : Pair} {truths falsities : Rows} (s : Sides x words g b y truths falsities) where
     abbrev A : (m : Subjective) → ℕ → Type 0
     A m a = Assumes x.atoms (rules_of x words) g (negation_of m a)
 
-    plain_all : InAll (mask_in words j 1) truths 0 b ↔ ((a : ℕ) → a ∈ rule_at.objective.plain → a ∈ y.T)
-    plain_all = all_side b 1 (omega arith) truths 0 (λ a. a ∈ y.T) (λ a l. s.in_t l)
+    plain_all : InAll (mask_in words j 1) truths.whole b ↔ ((a : ℕ) → a ∈ rule_at.objective.plain → a ∈ y.T)
+    plain_all = all_side b 1 (omega arith) truths.whole (λ a. a ∈ y.T) (λ a l. s.in_t l)
 
-    nots_all : InAll (mask_in words j 2) falsities 0 b ↔ ((a : ℕ) → a ∈ rule_at.objective.nots → a ∈ y.F)
-    nots_all = all_side b 2 (omega arith) falsities 0 (λ a. a ∈ y.F) (λ a l. s.in_f l)
+    nots_all : InAll (mask_in words j 2) falsities.whole b ↔ ((a : ℕ) → a ∈ rule_at.objective.nots → a ∈ y.F)
+    nots_all = all_side b 2 (omega arith) falsities.whole (λ a. a ∈ y.F) (λ a l. s.in_f l)
 
-    not_nots_all : InAll (mask_in words j 3) truths 0 b ↔ ((a : ℕ) → a ∈ rule_at.objective.not_nots → a ∈ y.T)
-    not_nots_all = all_side b 3 (omega arith) truths 0 (λ a. a ∈ y.T) (λ a l. s.in_t l)
+    not_nots_all : InAll (mask_in words j 3) truths.whole b ↔ ((a : ℕ) → a ∈ rule_at.objective.not_nots → a ∈ y.T)
+    not_nots_all = all_side b 3 (omega arith) truths.whole (λ a. a ∈ y.T) (λ a l. s.in_t l)
 
-    k_all : InAll (mask_in words j 4) truths 16 b ↔ ((a : ℕ) → a ∈ rule_at.mask K → SureLiteral (A K a) K y a)
-    k_all = all_side b 4 (omega arith) truths 16 (λ a. SureLiteral (A K a) K y a) (λ a l. s.is_k l)
+    k_all : InAll (mask_in words j 4) truths.without b ↔ ((a : ℕ) → a ∈ rule_at.mask K → SureLiteral (A K a) K y a)
+    k_all = all_side b 4 (omega arith) truths.without (λ a. SureLiteral (A K a) K y a) (λ a l. s.is_k l)
 
-    not_k_all : InAll (mask_in words j 5) falsities 32 b ↔ ((a : ℕ) → a ∈ rule_at.mask not_k → SureLiteral (A not_k a) not_k y a)
-    not_k_all = all_side b 5 (omega arith) falsities 32 (λ a. SureLiteral (A not_k a) not_k y a) (λ a l. s.is_not_k l)
+    not_k_all : InAll (mask_in words j 5) falsities.with b ↔ ((a : ℕ) → a ∈ rule_at.mask not_k → SureLiteral (A not_k a) not_k y a)
+    not_k_all = all_side b 5 (omega arith) falsities.with (λ a. SureLiteral (A not_k a) not_k y a) (λ a l. s.is_not_k l)
 
-    m_all : InAll (mask_in words j 6) truths 32 b ↔ ((a : ℕ) → a ∈ rule_at.mask M → SureLiteral (A M a) M y a)
-    m_all = all_side b 6 (omega arith) truths 32 (λ a. SureLiteral (A M a) M y a) (λ a l. s.is_m l)
+    m_all : InAll (mask_in words j 6) truths.with b ↔ ((a : ℕ) → a ∈ rule_at.mask M → SureLiteral (A M a) M y a)
+    m_all = all_side b 6 (omega arith) truths.with (λ a. SureLiteral (A M a) M y a) (λ a l. s.is_m l)
 
-    not_m_all : InAll (mask_in words j 7) falsities 16 b ↔ ((a : ℕ) → a ∈ rule_at.mask not_m → SureLiteral (A not_m a) not_m y a)
-    not_m_all = all_side b 7 (omega arith) falsities 16 (λ a. SureLiteral (A not_m a) not_m y a) (λ a l. s.is_not_m l)
+    not_m_all : InAll (mask_in words j 7) falsities.without b ↔ ((a : ℕ) → a ∈ rule_at.mask not_m → SureLiteral (A not_m a) not_m y a)
+    not_m_all = all_side b 7 (omega arith) falsities.without (λ a. SureLiteral (A not_m a) not_m y a) (λ a l. s.is_not_m l)
 
     pub sure_side : SureIn words j truths falsities b ↔ SureRule x.atoms (rules_of x words) g y rule_at
     sure_side = (
@@ -155,26 +153,26 @@ module _ {x : Outline} {words : List ℕ} (o : Outlines x words) {j : ℕ} (here
         literal q M = m_all.0 q.is_m
         literal q not_m = not_m_all.0 q.is_not_m
 
-    plain_some : InSome (mask_in words j 1) falsities 0 b ↔ ((a : ℕ) × (a ∈ rule_at.objective.plain) × (a ∈ y.F))
-    plain_some = some_side b 1 (omega arith) falsities 0 (λ a. a ∈ y.F) (λ a l. s.in_f l)
+    plain_some : InSome (mask_in words j 1) falsities.whole b ↔ ((a : ℕ) × (a ∈ rule_at.objective.plain) × (a ∈ y.F))
+    plain_some = some_side b 1 (omega arith) falsities.whole (λ a. a ∈ y.F) (λ a l. s.in_f l)
 
-    nots_some : InSome (mask_in words j 2) truths 0 b ↔ ((a : ℕ) × (a ∈ rule_at.objective.nots) × (a ∈ y.T))
-    nots_some = some_side b 2 (omega arith) truths 0 (λ a. a ∈ y.T) (λ a l. s.in_t l)
+    nots_some : InSome (mask_in words j 2) truths.whole b ↔ ((a : ℕ) × (a ∈ rule_at.objective.nots) × (a ∈ y.T))
+    nots_some = some_side b 2 (omega arith) truths.whole (λ a. a ∈ y.T) (λ a l. s.in_t l)
 
-    not_nots_some : InSome (mask_in words j 3) falsities 0 b ↔ ((a : ℕ) × (a ∈ rule_at.objective.not_nots) × (a ∈ y.F))
-    not_nots_some = some_side b 3 (omega arith) falsities 0 (λ a. a ∈ y.F) (λ a l. s.in_f l)
+    not_nots_some : InSome (mask_in words j 3) falsities.whole b ↔ ((a : ℕ) × (a ∈ rule_at.objective.not_nots) × (a ∈ y.F))
+    not_nots_some = some_side b 3 (omega arith) falsities.whole (λ a. a ∈ y.F) (λ a l. s.in_f l)
 
-    k-some : InSome (mask_in words j 4) falsities 32 b ↔ ((a : ℕ) × (a ∈ rule_at.mask K) × DeadLiteral (A K a) K y a)
-    k-some = some_side b 4 (omega arith) falsities 32 (λ a. DeadLiteral (A K a) K y a) (λ a l. s.is_not_k l)
+    k-some : InSome (mask_in words j 4) falsities.with b ↔ ((a : ℕ) × (a ∈ rule_at.mask K) × DeadLiteral (A K a) K y a)
+    k-some = some_side b 4 (omega arith) falsities.with (λ a. DeadLiteral (A K a) K y a) (λ a l. s.is_not_k l)
 
-    not_k_some : InSome (mask_in words j 5) truths 16 b ↔ ((a : ℕ) × (a ∈ rule_at.mask not_k) × DeadLiteral (A not_k a) not_k y a)
-    not_k_some = some_side b 5 (omega arith) truths 16 (λ a. DeadLiteral (A not_k a) not_k y a) (λ a l. s.is_k l)
+    not_k_some : InSome (mask_in words j 5) truths.without b ↔ ((a : ℕ) × (a ∈ rule_at.mask not_k) × DeadLiteral (A not_k a) not_k y a)
+    not_k_some = some_side b 5 (omega arith) truths.without (λ a. DeadLiteral (A not_k a) not_k y a) (λ a l. s.is_k l)
 
-    m-some : InSome (mask_in words j 6) falsities 16 b ↔ ((a : ℕ) × (a ∈ rule_at.mask M) × DeadLiteral (A M a) M y a)
-    m-some = some_side b 6 (omega arith) falsities 16 (λ a. DeadLiteral (A M a) M y a) (λ a l. s.is_not_m l)
+    m-some : InSome (mask_in words j 6) falsities.without b ↔ ((a : ℕ) × (a ∈ rule_at.mask M) × DeadLiteral (A M a) M y a)
+    m-some = some_side b 6 (omega arith) falsities.without (λ a. DeadLiteral (A M a) M y a) (λ a l. s.is_not_m l)
 
-    not_m_some : InSome (mask_in words j 7) truths 32 b ↔ ((a : ℕ) × (a ∈ rule_at.mask not_m) × DeadLiteral (A not_m a) not_m y a)
-    not_m_some = some_side b 7 (omega arith) truths 32 (λ a. DeadLiteral (A not_m a) not_m y a) (λ a l. s.is_m l)
+    not_m_some : InSome (mask_in words j 7) truths.with b ↔ ((a : ℕ) × (a ∈ rule_at.mask not_m) × DeadLiteral (A not_m a) not_m y a)
+    not_m_some = some_side b 7 (omega arith) truths.with (λ a. DeadLiteral (A not_m a) not_m y a) (λ a l. s.is_m l)
 
     pub dead_side : DeadIn words j truths falsities b ↔ DeadRule x.atoms (rules_of x words) g y rule_at
     dead_side = (to, from)

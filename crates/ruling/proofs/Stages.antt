@@ -19,8 +19,9 @@ use Rattle.guess.specs.declared.outline.Outline.{Outline}
 use Rattle.guess.specs.Programs.{unmasked_in, Outlines}
 use Rattle.guess.specs.Numbered.{rules_of, rule_there, rule_number, masks_below}
 use Rattle.ruling.specs.Literals.{head_in, SureIn}
+use Rattle.ruling.specs.declared.literals.Rows.{Rows}
 use Rattle.ruling.specs.Pass.{FalseBy}
-use Rattle.ruling.specs.Reached.{Same, Advanced, Reached, start, more, Settled, all, early}
+use Rattle.ruling.specs.Reached.{Advanced, Reached, start, more, Settled, all, early}
 use Rattle.ruling.proofs.Sides.{Assumed, At, Sides, sides, head_is, mask_below, sure_side, dead_side}
 
 module _ {x : Outline} {words : List ℕ} (o : Outlines x words) (g b : ℕ) where
@@ -31,7 +32,7 @@ module _ {x : Outline} {words : List ℕ} (o : Outlines x words) (g b : ℕ) whe
   stage i = steps x.atoms program i
 
   -- the rules that are sure, by their heads
-  module _ {y : Pair} {truths falsities : List ℕ} (s : Sides x words g b y truths falsities) where
+  module _ {y : Pair} {truths falsities : Rows} (s : Sides x words g b y truths falsities) where
     pub sure-rules : (head : ℕ) → ((j : ℕ) × (j < x.rules) × (head_in words j ≡ head) × SureIn words j truths falsities b)
         ↔ ((r : EpistemicRule) × (r among rules_of x words) × (r.objective.head ≡ head) × SureRule x.atoms (rules_of x words) g y r)
     sure-rules head = (
@@ -84,16 +85,16 @@ module _ {x : Outline} {words : List ℕ} (o : Outlines x words) (g b : ℕ) whe
     at_stage k (more {i} r v) = one-step i k (at_stage k r) v
 
     -- where a pass adds nothing, a step does not either
-    at_same : {y z : Pair} {t f t' f' : List ℕ} → y.T < 2 ^ x.atoms → y.F < 2 ^ x.atoms → z.T < 2 ^ x.atoms → z.F < 2 ^ x.atoms
-        → At x words g b y t f → At x words g b z t' f' → Same 16 t t' → Same 16 f f' → (z.T ≡ y.T) × (z.F ≡ y.F)
-    at_same {y} {z} c d e k v w s q = (
+    at_same : {y z : Pair} {t f : List ℕ} → y.T < 2 ^ x.atoms → y.F < 2 ^ x.atoms → z.T < 2 ^ x.atoms → z.F < 2 ^ x.atoms
+        → At x words g b y t f → At x words g b z t f → (z.T ≡ y.T) × (z.F ≡ y.F)
+    at_same {y} {z} c d e k v w = (
       ∈_ext z.T y.T (λ a. (
-        λ m. let l = up (∈_below e m) in (v.in_t l).0 (subst (λ i. b ∈ i) (sym (s.word l)) ((w.in_t l).1 m)),
-        λ m. let l = up (∈_below c m) in (w.in_t l).0 (subst (λ i. b ∈ i) (s.word l) ((v.in_t l).1 m)),
+        λ m. let l = up (∈_below e m) in (v.in_t l).0 ((w.in_t l).1 m),
+        λ m. let l = up (∈_below c m) in (w.in_t l).0 ((v.in_t l).1 m),
       )),
       ∈_ext z.F y.F (λ a. (
-        λ m. let l = up (∈_below k m) in (v.in_f l).0 (subst (λ i. b ∈ i) (sym (q.word l)) ((w.in_f l).1 m)),
-        λ m. let l = up (∈_below d m) in (w.in_f l).0 (subst (λ i. b ∈ i) (q.word l) ((v.in_f l).1 m)),
+        λ m. let l = up (∈_below k m) in (v.in_f l).0 ((w.in_f l).1 m),
+        λ m. let l = up (∈_below d m) in (w.in_f l).0 ((v.in_f l).1 m),
       )),
     )
       where
@@ -102,12 +103,12 @@ module _ {x : Outline} {words : List ℕ} (o : Outlines x words) (g b : ℕ) whe
 
     pub at_last : {t f : List ℕ} → b < 64 → Settled words x.rules x.atoms u p t f → At x words g b (propagated x.atoms program) t f
     at_last k (all r) = at_stage k r
-    at_last {t} {f} k (early {i} r r' s q) =
+    at_last {t} {f} k (early {i} r r') =
         let (c, d) = stage_below x.atoms program i in
         let (e, j) = stage_below x.atoms program (suc i) in
         let v = at_stage k r in
         let w = at_stage k r' in
-        let (m, l) = at_same c d e j v w s q in
+        let (m, l) = at_same c d e j v w in
         let n : stage i ≡ propagated x.atoms program = stage_fixed x.atoms program i m l in
         subst (λ z. At x words g b z t f) n (record {
           in_t = λ {a} y. subst (λ z. b ∈ get_or t a 0 ↔ a ∈ z) m (w.in_t y);

@@ -6,6 +6,7 @@ use Rattle.sets.specs.Sets.{◌∈◌, ◌∪◌, ∅}
 use Rattle.lanes.specs.Lanes.{Lanes, lanes_iff, lanes_or, lanes_none}
 use Rattle.guess.specs.declared.outline.Outline.{Outline}
 use Rattle.ruling.specs.Literals.{Some, InSome, head_in, SureIn}
+use Rattle.ruling.specs.declared.literals.Rows.{Rows}
 use Rattle.ruling.specs.Laid.{Laid}
 use Rattle.ruling.specs.Reached.{Settled}
 
@@ -19,10 +20,10 @@ ClashIn mask assumed with without = Some (ClashAt assumed with without) mask
 
 -- one of so many rules has an empty head and is sure
 module _ (words : List ℕ) where
-  abbrev pub EmptyHeadIn : (rules : ℕ) (truths falsities : List ℕ) (b : ℕ) → Type 0
+  abbrev pub EmptyHeadIn : (rules : ℕ) (truths falsities : Rows) (b : ℕ) → Type 0
   EmptyHeadIn rules truths falsities b = (j : ℕ) × (j < rules) × (head_in words j ≡ 0) × SureIn words j truths falsities b
 
-  module _ (truths falsities : List ℕ) where
+  module _ (truths falsities : Rows) where
     pub empty_none : Lanes (EmptyHeadIn 0 truths falsities) ∅
     empty_none = lanes_none (λ b l p. not-suc-le-zero p.1)
 
@@ -44,24 +45,24 @@ module _ (words : List ℕ) where
 -- ---- all tests, of T and F
 module _ (x : Outline) (words u p : List ℕ) where
   -- a sure rule has an empty head, an in-atom is in F or an out-atom in T, or an atom under K or "not K", or under M or "not M", clashes
-  abbrev pub OutIn : (truths falsities t f : List ℕ) (b : ℕ) → Type 0
+  abbrev pub OutIn : (truths falsities : Rows) (t f : List ℕ) (b : ℕ) → Type 0
   OutIn truths falsities t f b =
       EmptyHeadIn words x.rules truths falsities b
-      ⊎ ((InSome x.ins f 0 b ⊎ InSome x.outs t 0 b) ⊎ (ClashIn x.k_atoms u t f b ⊎ ClashIn x.m_atoms p f t b))
+      ⊎ ((InSome x.ins f b ⊎ InSome x.outs t b) ⊎ (ClashIn x.k_atoms u t f b ⊎ ClashIn x.m_atoms p f t b))
 
   pub record Tested (t f : List ℕ) (lanes : ℕ) : Type 0 where
-    pub truths : List ℕ
-    pub falsities : List ℕ
+    pub truths : Rows
+    pub falsities : Rows
     pub laid_t : Laid t u p 16 truths
     pub laid_f : Laid f p u 16 falsities
     pub ins_below : x.ins < 2 ^ 16
     pub outs_below : x.outs < 2 ^ 16
     pub out : Lanes (OutIn truths falsities t f) lanes
 
-  pub tested : {t f truths falsities : List ℕ} {a b c d e : ℕ} → Laid t u p 16 truths → Laid f p u 16 falsities → Lanes (EmptyHeadIn words x.rules truths falsities) a
-      → Lanes (InSome x.ins f 0) b × (x.ins < 2 ^ 16) → Lanes (InSome x.outs t 0) c × (x.outs < 2 ^ 16) → Lanes (ClashIn x.k_atoms u t f) d → Lanes (ClashIn x.m_atoms p f t) e
+  pub tested : {truths falsities : Rows} {t f : List ℕ} {a b c d e : ℕ} → Laid t u p 16 truths → Laid f p u 16 falsities → Lanes (EmptyHeadIn words x.rules truths falsities) a
+      → Lanes (InSome x.ins f) b × (x.ins < 2 ^ 16) → Lanes (InSome x.outs t) c × (x.outs < 2 ^ 16) → Lanes (ClashIn x.k_atoms u t f) d → Lanes (ClashIn x.m_atoms p f t) e
       → Tested t f (a ∪ ((b ∪ c) ∪ (d ∪ e)))
-  tested {truths = truths} {falsities} y z a b c d e = record {
+  tested {truths} {falsities} y z a b c d e = record {
     truths = truths;
     falsities = falsities;
     laid_t = y;

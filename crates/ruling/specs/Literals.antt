@@ -1,13 +1,13 @@
--- The lanes in which a rule is sure, and in which it is dead. `truths` and `falsities` have three words an atom. `truths` has the lanes in which a is
--- true at a, those in which "K a" is at 16 + a and "M a" at 32 + a; `falsities` those in which a is false at a, "M a" at 16 + a and "K a" at 32 + a.
--- Assumes nothing.
-use Rattle.std.specs.Prelude.{ℕ, ◌+◌, ◌-◌, ◌*◌, ◌<◌, ◌≡◌, refl, List, ◌⊎◌, get_or}
+-- The lanes in which a rule is sure, and in which it is dead. `truths` has the rows of T: where a is true, where "K a" is (without), and where "M a" is
+-- (with); `falsities` those of F: where a is false, where "M a" is (without), and where "K a" is (with). Assumes nothing.
+use Rattle.std.specs.Prelude.{ℕ, ◌-◌, ◌*◌, ◌<◌, ◌≡◌, refl, List, ◌⊎◌, get_or}
 use Rattle.std.proofs.Common.{sym, subst, inl, inr, ⊎_elim}
 use Rattle.sets.specs.Decides.{decided, dec_eq}
 use Rattle.sets.specs.Sets.{◌∈◌, ◌⊆◌, ◌∩◌, ◌∪◌, ∅, single}
 use Rattle.sets.specs.Members.{∈-∅, ∈-∖, ∈-full, ∈-single, ⊆_refl, ∩_⊆_left, ⊆_trans}
 use Rattle.sets.specs.Least.{First}
 use Rattle.semantics.specs.Words.{mask_in}
+use Rattle.ruling.specs.declared.literals.Rows.{Rows}
 use Rattle.lanes.specs.Lanes.{Lanes, lanes_and, lanes_or, lanes_iff, lanes_none}
 
 -- every lane
@@ -84,42 +84,42 @@ module _ (Q : ℕ → ℕ → Type 0) (mask : ℕ) where
   pub some_ends : {rest lanes : ℕ} → rest ≡ 0 → SomeBut rest lanes → Lanes Some lanes
   some_ends {rest} z e = lanes_iff (λ b l. (λ p. (p.0, p.1, p.3), λ p. (p.0, p.1, (λ k. ∈-∅ (subst (λ y. p.0 ∈ y) z k)), p.2))) e.are
 
--- ---- the words of the atoms, from a place
-abbrev pub AtAtom : (rows : List ℕ) (from : ℕ) → ℕ → ℕ → Type 0
-AtAtom rows from a b = b ∈ get_or rows (from + a) 0
+-- ---- the words of the atoms
+abbrev pub AtAtom : (row : List ℕ) → ℕ → ℕ → Type 0
+AtAtom row a b = b ∈ get_or row a 0
 
-abbrev pub InAll : (mask : ℕ) (rows : List ℕ) (from : ℕ) → ℕ → Type 0
-InAll mask rows from = Every (AtAtom rows from) mask
+abbrev pub InAll : (mask : ℕ) (row : List ℕ) → ℕ → Type 0
+InAll mask row = Every (AtAtom row) mask
 
-abbrev pub InSome : (mask : ℕ) (rows : List ℕ) (from : ℕ) → ℕ → Type 0
-InSome mask rows from = Some (AtAtom rows from) mask
+abbrev pub InSome : (mask : ℕ) (row : List ℕ) → ℕ → Type 0
+InSome mask row = Some (AtAtom row) mask
 
 -- ---- rule j of eight masks
 abbrev pub head_in : (words : List ℕ) (j : ℕ) → ℕ
 head_in words j = get_or words (8 * j) 0
 
-module _ (words : List ℕ) (j : ℕ) (truths falsities : List ℕ) where
+module _ (words : List ℕ) (j : ℕ) (truths falsities : Rows) where
   pub record SureIn (b : ℕ) : Type 0 where
-    pub plain : InAll (mask_in words j 1) truths 0 b
-    pub nots : InAll (mask_in words j 2) falsities 0 b
-    pub not_nots : InAll (mask_in words j 3) truths 0 b
-    pub is_k : InAll (mask_in words j 4) truths 16 b
-    pub is_not_k : InAll (mask_in words j 5) falsities 32 b
-    pub is_m : InAll (mask_in words j 6) truths 32 b
-    pub is_not_m : InAll (mask_in words j 7) falsities 16 b
+    pub plain : InAll (mask_in words j 1) truths.whole b
+    pub nots : InAll (mask_in words j 2) falsities.whole b
+    pub not_nots : InAll (mask_in words j 3) truths.whole b
+    pub is_k : InAll (mask_in words j 4) truths.without b
+    pub is_not_k : InAll (mask_in words j 5) falsities.with b
+    pub is_m : InAll (mask_in words j 6) truths.with b
+    pub is_not_m : InAll (mask_in words j 7) falsities.without b
 
   pub data DeadIn (b : ℕ) : Type 0 where
-    by_plain : InSome (mask_in words j 1) falsities 0 b → DeadIn b
-    by_nots : InSome (mask_in words j 2) truths 0 b → DeadIn b
-    by_not_nots : InSome (mask_in words j 3) falsities 0 b → DeadIn b
-    by_k : InSome (mask_in words j 4) falsities 32 b → DeadIn b
-    by_not_k : InSome (mask_in words j 5) truths 16 b → DeadIn b
-    by_m : InSome (mask_in words j 6) falsities 16 b → DeadIn b
-    by_not_m : InSome (mask_in words j 7) truths 32 b → DeadIn b
+    by_plain : InSome (mask_in words j 1) falsities.whole b → DeadIn b
+    by_nots : InSome (mask_in words j 2) truths.whole b → DeadIn b
+    by_not_nots : InSome (mask_in words j 3) falsities.whole b → DeadIn b
+    by_k : InSome (mask_in words j 4) falsities.with b → DeadIn b
+    by_not_k : InSome (mask_in words j 5) truths.without b → DeadIn b
+    by_m : InSome (mask_in words j 6) falsities.without b → DeadIn b
+    by_not_m : InSome (mask_in words j 7) truths.with b → DeadIn b
 
-  pub sure_by : {u v w x y z q : ℕ} → Lanes (InAll (mask_in words j 1) truths 0) u → Lanes (InAll (mask_in words j 2) falsities 0) v
-      → Lanes (InAll (mask_in words j 3) truths 0) w → Lanes (InAll (mask_in words j 4) truths 16) x → Lanes (InAll (mask_in words j 5) falsities 32) y
-      → Lanes (InAll (mask_in words j 6) truths 32) z → Lanes (InAll (mask_in words j 7) falsities 16) q
+  pub sure_by : {u v w x y z q : ℕ} → Lanes (InAll (mask_in words j 1) truths.whole) u → Lanes (InAll (mask_in words j 2) falsities.whole) v
+      → Lanes (InAll (mask_in words j 3) truths.whole) w → Lanes (InAll (mask_in words j 4) truths.without) x → Lanes (InAll (mask_in words j 5) falsities.with) y
+      → Lanes (InAll (mask_in words j 6) truths.with) z → Lanes (InAll (mask_in words j 7) falsities.without) q
       → Lanes SureIn (((((u ∩ v) ∩ w) ∩ x) ∩ y) ∩ z ∩ q)
   sure_by a b c d e f g =
       lanes_iff (λ l k. (
@@ -136,8 +136,8 @@ module _ (words : List ℕ) (j : ℕ) (truths falsities : List ℕ) where
       )) (lanes_and (lanes_and (lanes_and (lanes_and (lanes_and (lanes_and a b) c) d) e) f) g)
 
   dead_of : {b : ℕ} → DeadIn b
-      → ((((((InSome (mask_in words j 1) falsities 0 b ⊎ InSome (mask_in words j 2) truths 0 b) ⊎ InSome (mask_in words j 3) falsities 0 b)
-      ⊎ InSome (mask_in words j 4) falsities 32 b) ⊎ InSome (mask_in words j 5) truths 16 b) ⊎ InSome (mask_in words j 6) falsities 16 b) ⊎ InSome (mask_in words j 7) truths 32 b)
+      → ((((((InSome (mask_in words j 1) falsities.whole b ⊎ InSome (mask_in words j 2) truths.whole b) ⊎ InSome (mask_in words j 3) falsities.whole b)
+      ⊎ InSome (mask_in words j 4) falsities.with b) ⊎ InSome (mask_in words j 5) truths.without b) ⊎ InSome (mask_in words j 6) falsities.without b) ⊎ InSome (mask_in words j 7) truths.with b)
   dead_of (by_plain p) = inl (inl (inl (inl (inl (inl p)))))
   dead_of (by_nots p) = inl (inl (inl (inl (inl (inr p)))))
   dead_of (by_not_nots p) = inl (inl (inl (inl (inr p))))
@@ -146,9 +146,9 @@ module _ (words : List ℕ) (j : ℕ) (truths falsities : List ℕ) where
   dead_of (by_m p) = inl (inr p)
   dead_of (by_not_m p) = inr p
 
-  pub dead_by : {u v w x y z q : ℕ} → Lanes (InSome (mask_in words j 1) falsities 0) u → Lanes (InSome (mask_in words j 2) truths 0) v
-      → Lanes (InSome (mask_in words j 3) falsities 0) w → Lanes (InSome (mask_in words j 4) falsities 32) x → Lanes (InSome (mask_in words j 5) truths 16) y
-      → Lanes (InSome (mask_in words j 6) falsities 16) z → Lanes (InSome (mask_in words j 7) truths 32) q
+  pub dead_by : {u v w x y z q : ℕ} → Lanes (InSome (mask_in words j 1) falsities.whole) u → Lanes (InSome (mask_in words j 2) truths.whole) v
+      → Lanes (InSome (mask_in words j 3) falsities.whole) w → Lanes (InSome (mask_in words j 4) falsities.with) x → Lanes (InSome (mask_in words j 5) truths.without) y
+      → Lanes (InSome (mask_in words j 6) falsities.without) z → Lanes (InSome (mask_in words j 7) truths.with) q
       → Lanes DeadIn (((((u ∪ v) ∪ w) ∪ x) ∪ y) ∪ z ∪ q)
   dead_by a b c d e f g =
       lanes_iff (λ l k. (

@@ -3,12 +3,12 @@ ghost use Rattle.std.specs.Prelude.{◌*◌, ◌≤◌, length};
 ghost use Rattle.lanes.specs.Lanes.{Lanes};
 ghost use Rattle.ruling.specs.Contradiction.{EmptyHeadIn, ClashIn};
 
-use super::literals::sure;
+use super::literals::{Rows, sure};
 use sets::Set;
 
 // The lanes in which a rule with an empty head is sure.
-pub fn empty_head(words: &[u16], rules: usize, truths: &[u64], falsities: &[u64]) -> u64
-    requires { (8 * rules ≤ length words.now) × (48 ≤ length truths.now) × (48 ≤ length falsities.now) }
+pub fn empty_head(words: &[u16], rules: usize, truths: &Rows, falsities: &Rows) -> u64
+    requires { 8 * rules ≤ length words.now }
     ensures { Lanes (EmptyHeadIn words.now rules truths.now falsities.now) result }
 {
     let mut lanes = 0;
@@ -21,8 +21,7 @@ pub fn empty_head(words: &[u16], rules: usize, truths: &[u64], falsities: &[u64]
 }
 
 // The lanes in which, for some atom of the mask, its negation is assumed and it is in `with`, or is not and it is in `without`.
-pub fn clashes(mask: u16, assumed: &[u64], with: &[u64], without: &[u64]) -> u64
-    requires { (16 ≤ length assumed.now) × (16 ≤ length with.now) × (16 ≤ length without.now) }
+pub fn clashes(mask: u16, assumed: &[u64; 16], with: &[u64; 16], without: &[u64; 16]) -> u64
     ensures { Lanes (ClashIn mask assumed.now with.now without.now) result }
 {
     let mut lanes = 0;

@@ -7,59 +7,56 @@ pub mod literals;
 pub mod pass;
 pub mod propagate;
 
-ghost use Rattle.std.specs.Prelude.{◌≤◌, ◌<◌, length};
+ghost use Rattle.std.specs.Prelude.{◌<◌};
 ghost use Rattle.guess.specs.Programs.{Outlines};
 ghost use Rattle.lanes.specs.Planes.{Word};
-ghost use Rattle.ruling.specs.Assumed.{Numbers};
+ghost use Rattle.ruling.specs.Assumed.{NumbersOf};
 ghost use Rattle.ruling.specs.Free.{Free};
 ghost use Rattle.ruling.specs.Contradiction.{Tested, RuledOutIn};
 
-use assumed::assume;
+use assumed::{Assumed, Numbers, assume};
 use contradiction::{clashes, empty_head};
 use guess::outline::Outline;
 use lanes::cube::Patterns;
 use literals::{in_some, lay};
+use pass::Pair;
 use propagate::propagate;
 use sets::{Set, full};
 
-// The lanes in which T and F contradict the guess. u has by atom the lanes in which "not K a" is assumed, p those in which "M a" is.
-fn test(words: &[u16], x: Outline, u: &[u64], p: &[u64], t: &[u64], f: &[u64]) -> u64
-    requires { Outlines x words.now × (16 ≤ length u.now) × (16 ≤ length p.now) × (16 ≤ length t.now) × (16 ≤ length f.now) }
-    ensures { Tested x words.now u.now p.now t.now f.now result }
+// The lanes in which T and F contradict the guess.
+fn test(words: &[u16], x: Outline, assumed: &Assumed, pair: &Pair) -> u64
+    requires { Outlines x words.now }
+    ensures { Tested x words.now assumed.now.unknown assumed.now.maybe pair.now.t pair.now.f result }
 {
-    let mut truths = [0u64; 48];
-    let mut falsities = [0u64; 48];
-    lay(t, u, p, &mut truths[..]);
-    lay(f, p, u, &mut falsities[..]);
-    let rule = empty_head(words, x.rules, &truths[..], &falsities[..]);
-    let in_atom = in_some(x.ins, f, 0);
-    let out_atom = in_some(x.outs, t, 0);
-    let unknown = clashes(x.k_atoms, u, t, f);
-    let maybe = clashes(x.m_atoms, p, f, t);
+    let truths = lay(&pair.t, &assumed.unknown, &assumed.maybe);
+    let falsities = lay(&pair.f, &assumed.maybe, &assumed.unknown);
+    let rule = empty_head(words, x.rules, &truths, &falsities);
+    let in_atom = in_some(x.ins, &pair.f);
+    let out_atom = in_some(x.outs, &pair.t);
+    let unknown = clashes(x.k_atoms, &assumed.unknown, &pair.t, &pair.f);
+    let maybe = clashes(x.m_atoms, &assumed.maybe, &pair.f, &pair.t);
     rule | ((in_atom | out_atom) | (unknown | maybe))
 }
 
 // The lanes in which the guess is contradicted.
-fn contradicted(words: &[u16], x: Outline, u: &[u64], p: &[u64]) -> u64
-    requires { Outlines x words.now × (16 ≤ length u.now) × (16 ≤ length p.now) }
-    ensures { RuledOutIn x words.now u.now p.now result }
+fn contradicted(words: &[u16], x: Outline, assumed: &Assumed) -> u64
+    requires { Outlines x words.now }
+    ensures { RuledOutIn x words.now assumed.now.unknown assumed.now.maybe result }
 {
-    let mut t = [0u64; 17];
-    let mut f = [0u64; 16];
-    propagate(words, x.rules, x.atoms, u, p, &mut t[..], &mut f[..]);
-    test(words, x, u, p, &t[..], &f[..])
+    let pair = propagate(words, x.rules, x.atoms, assumed);
+    test(words, x, assumed, &pair)
 }
 
-// The guesses of word w that are not contradicted, as lanes. `numbers` has the numbers of the negations.
-pub fn free_lanes(patterns: &Patterns, words: &[u16], x: Outline, numbers: &[u16], w: u16) -> u64
-    requires { Outlines x words.now × (32 ≤ length numbers.now) × Numbers x x.atoms numbers.now × (w < 64) }
+// The guesses of word w that are not contradicted, as lanes.
+pub fn free_lanes(patterns: &Patterns, words: &[u16], x: Outline, numbers: &Numbers, w: u16) -> u64
+    requires { Outlines x words.now × NumbersOf x x.atoms numbers.now × (w < 64) }
     ensures { Word (Free x words.now) w result }
 {
-    let mut u = [0u64; 16];
-    let mut p = [0u64; 16];
-    assume(patterns, numbers, 0, w, &mut u[..]);
-    assume(patterns, numbers, 16, w, &mut p[..]);
+    let assumed = Assumed {
+        unknown: assume(patterns, &numbers.unknown, w),
+        maybe: assume(patterns, &numbers.maybe, w),
+    };
     let guesses = patterns.cube(full(15).minus(full(x.negations as u16)), 0, w);
-    let bad = contradicted(words, x, &u[..], &p[..]);
+    let bad = contradicted(words, x, &assumed);
     guesses.minus(bad)
 }

@@ -1,29 +1,34 @@
 // One pass over the rules, for all lanes: what enters T and F.
-ghost use Rattle.std.specs.Prelude.{◌≡◌, ◌+◌, ◌*◌, ◌≤◌, length};
+ghost use Rattle.std.specs.Prelude.{◌*◌, ◌≤◌, length};
 ghost use Rattle.ruling.specs.Pass.{Lone, Narrowed, Followed, Entered, Next};
 
-use super::literals::{dead, sure};
+use super::literals::{Rows, dead, sure};
 use sets::{Set, power};
 
-// The only atom of a head; 16 where it has none or several.
-fn lone(head: u16) -> usize
+// T and F: by atom, the lanes in which it is in the one, and in the other.
+#[derive(Clone, Copy, Debug, PartialEq, Eq)]
+pub struct Pair {
+    pub t: [u64; 16],
+    pub f: [u64; 16],
+}
+
+// The only atom of a head.
+fn lone(head: u16) -> Option<usize>
     ensures { Lone head result }
 {
     if head == 0 {
-        return 16;
+        return None;
     }
     let a = head.first();
     if power(a as u16) == head {
-        return a;
+        return Some(a);
     }
-    16
+    None
 }
 
 // At each atom of the head only these lanes are left.
-fn narrow(head: u16, lanes: u64, shut: &mut [u64])
-    requires { 16 ≤ length shut.old }
-    ensures shut_len_unchanged { length shut.new ≡ length shut.old }
-    ensures narrowed { Narrowed head 0 lanes shut.old shut.new }
+fn narrow(head: u16, lanes: u64, shut: &mut [u64; 16])
+    ensures { Narrowed head 0 lanes shut.old shut.new }
 {
     let mut rest = head;
     while rest > 0 {
@@ -37,28 +42,27 @@ fn narrow(head: u16, lanes: u64, shut: &mut [u64])
 fn follow(
     words: &[u16],
     rules: usize,
-    truths: &[u64],
-    falsities: &[u64],
-    t: &mut [u64],
-    shut: &mut [u64],
+    truths: &Rows,
+    falsities: &Rows,
+    t: &mut [u64; 16],
+    shut: &mut [u64; 16],
 )
-    requires { (8 * rules ≤ length words.now) × (48 ≤ length truths.now) × (48 ≤ length falsities.now) × (17 ≤ length t.old) × (16 ≤ length shut.old) }
-    ensures t_len_unchanged { (length t.new ≡ length t.old) × (length shut.new ≡ length shut.old) }
-    ensures followed { Followed words.now truths.now falsities.now rules t.old shut.old t.new shut.new }
+    requires { 8 * rules ≤ length words.now }
+    ensures { Followed words.now truths.now falsities.now rules t.old shut.old t.new shut.new }
 {
     for j in 0..rules {
         let head = words[8 * j];
-        let a = lone(head);
-        t[a] = t[a] | sure(words, j, truths, falsities);
-        narrow(head, dead(words, j, truths, falsities), &mut shut[..]);
+        if let Some(a) = lone(head) {
+            t[a] = t[a] | sure(words, j, truths, falsities);
+        }
+        narrow(head, dead(words, j, truths, falsities), &mut *shut);
     }
 }
 
 // To f is added, at each of the first n atoms, what is left in `shut`.
-fn enter(shut: &[u64], n: usize, f: &mut [u64])
-    requires { (n ≤ 16) × (16 ≤ length shut.now) × (16 ≤ length f.old) }
-    ensures f_len_unchanged { length f.new ≡ length f.old }
-    ensures entered { Entered shut.now n f.old f.new }
+fn enter(shut: &[u64; 16], n: usize, f: &mut [u64; 16])
+    requires { n ≤ 16 }
+    ensures { Entered shut.now n f.old f.new }
 {
     for a in 0..n {
         f[a] = f[a] | shut[a];
@@ -70,16 +74,17 @@ pub fn pass(
     words: &[u16],
     rules: usize,
     n: usize,
-    truths: &[u64],
-    falsities: &[u64],
-    t: &mut [u64],
-    f: &mut [u64],
-)
-    requires { (8 * rules ≤ length words.now) × (n ≤ 16) × (48 ≤ length truths.now) × (48 ≤ length falsities.now) × (17 ≤ length t.old) × (16 ≤ length f.old) }
-    ensures t_len_unchanged { (length t.new ≡ length t.old) × (length f.new ≡ length f.old) }
-    ensures next { Next words.now rules n truths.now falsities.now t.old f.old t.new f.new }
+    truths: &Rows,
+    falsities: &Rows,
+    pair: Pair,
+) -> Pair
+    requires { (8 * rules ≤ length words.now) × (n ≤ 16) }
+    ensures { Next words.now rules n truths.now falsities.now pair.t pair.f result.t result.f }
 {
-    let mut shut = [0xFFFFFFFFFFFFFFFFu64; 16];
-    follow(words, rules, truths, falsities, t, &mut shut[..]);
-    enter(&shut[..], n, f);
+    let mut t = pair.t;
+    let mut f = pair.f;
+    let mut shut = [u64::MAX; 16];
+    follow(words, rules, truths, falsities, &mut t, &mut shut);
+    enter(&shut, n, &mut f);
+    Pair { t, f }
 }

@@ -7,5 +7,5 @@ use Rattle.ruling.proofs.free_lanes.Goals as goal
 pub returns : goal.returns
 returns c =
     let pre = c.requires in
-    free_word pre.0 pre.2 c.assume.ensures.assumed_in c.assume-2.ensures.assumed_in pre.3
+    free_word pre.0 pre.1 c.assume.ensures c.assume-2.ensures pre.2
     (c.minus.ensures ∙ ap₂ (λ u v. u ∖ v) c.full.ensures c.full-2.ensures) c.cube-guesses.ensures c.contradicted-bad.ensures c.minus-2.ensures

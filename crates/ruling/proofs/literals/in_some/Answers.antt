@@ -13,7 +13,7 @@ pub loop-rest-smaller : goal.loop-rest-smaller
 loop-rest-smaller c = let r = c.loop-rest.rest in omega (arith, ⊆_le (∩-⊆ r (r - 1)))
 
 pub loop-rest-preserved : goal.loop-rest-preserved
-loop-rest-preserved c = let a = c.args in some_more (AtAtom a.rows.now a.from) a.mask c.first.ensures.0 lanes_self c.loop-rest.invariant
+loop-rest-preserved c = let a = c.args in some_more (AtAtom a.row.now) a.mask c.first.ensures.0 lanes_self c.loop-rest.invariant
 
 pub returns : goal.returns
 returns c = (some_ends _ _ (omega arith) c.loop-rest.invariant, omega (arith, c.ranges))

@@ -3,7 +3,7 @@ use Rattle.ruling.specs.Literals.{AtAtom, SomeBut}
 use Rattle.ruling.proofs.literals.in_some.Given as goal
 
 abbrev pub invariant-loop-rest : goal.invariant-loop-rest
-invariant-loop-rest l = SomeBut (AtAtom l.rows l.from) l.mask l.rest l.lanes
+invariant-loop-rest l = SomeBut (AtAtom l.row) l.mask l.rest l.lanes
 
 abbrev pub decreases-loop-rest : goal.decreases-loop-rest
 decreases-loop-rest l = l.rest

@@ -1,32 +1,36 @@
 -- `ruling::pass::follow` meets its contract. Assumes nothing.
-use mathlib.Core.Path.{◌≡◌, refl, subst, ◌∙◌}
+use mathlib.Core.Path.{◌≡◌, sym, subst}
 use native.Mathlib.Omega.{arith}
-use lib.ListN.{length-set}
-use Rattle.ruling.specs.Pass.{Followed, follow_none, follow_more}
+use Prim.Native.Nat.{◌+◌}
+use Rattle.ruling.specs.Pass.{TruesTo, Followed, follow_none, true_more, true_over, follow_more}
 use Rattle.ruling.proofs.pass.follow.Goals as goal
+use Rattle.ruling.proofs.pass.follow.Goals.{in-Some, in_default}
 
 pub loop-j-init : goal.loop-j-init
-loop-j-init c = (omega arith, refl, refl, follow_none _ _ _)
+loop-j-init c = (omega arith, omega arith, follow_none _ _ _)
 
 pub loop-j-preserved : goal.loop-j-preserved
 loop-j-preserved c =
     let a = c.args in
     let l = c.loop-j in
-    let one = c.lone-a.ensures in
-    let narrow = c.narrow.ensures in (
-      omega (arith, c.loop-j-test.true),
-      length-set l.t _ _ ∙ l.invariant.1,
-      narrow.shut_len_unchanged ∙ l.invariant.2,
-      follow_more a.words.now a.truths.now a.falsities.now (omega (arith, one.index, l.invariant.1, c.requires.3)) one c.sure.ensures c.dead.ensures
-          narrow.narrowed l.invariant.3,
+    let one = c.lone.ensures in (
+      c.match-lone.array_long,
+      c.narrow.array_long,
+      follow_more a.words.now a.truths.now a.falsities.now
+          (elim c.match-lone.branch [
+            | in-Some w ↦
+                subst (TruesTo a.words.now a.truths.now a.falsities.now (l.j + 1) a.t.now) (sym w.t-is)
+                (true_more a.words.now a.truths.now a.falsities.now one l.invariant.2 (omega (arith, one.index w.in-Some.is, l.invariant.0)) w.in-Some.is w.sure.ensures)
+            | in_default w ↦
+                subst (TruesTo a.words.now a.truths.now a.falsities.now (l.j + 1) a.t.now) (sym w.t-is)
+                (true_over a.words.now a.truths.now a.falsities.now one l.invariant.2 w.in_default.not-Some)
+          ])
+          c.dead.ensures c.narrow.ensures l.invariant.2,
     )
 
 pub returns : goal.returns
 returns c =
     let l = c.loop-j in
     let a = c.args in
-    let e : l.j ≡ a.rules = omega (arith, l.invariant.0, c.loop-j-test.false) in
-    record {
-      t_len_unchanged = (l.invariant.1, l.invariant.2);
-      followed = subst (λ z. Followed a.words.now a.truths.now a.falsities.now z a.t.now a.shut.now l.t l.shut) e l.invariant.3;
-    }
+    let e : l.j ≡ a.rules = omega arith in
+    subst (λ z. Followed a.words.now a.truths.now a.falsities.now z a.t.now a.shut.now l.t l.shut) e l.invariant.2

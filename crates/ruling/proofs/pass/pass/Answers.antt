@@ -7,9 +7,4 @@ use Rattle.ruling.proofs.pass.pass.Goals as goal
 pub returns : goal.returns
 returns c =
     let a = c.args in
-    let f = c.follow.ensures in
-    let e = c.enter.ensures in
-    record {
-      t_len_unchanged = (f.t_len_unchanged.0, e.f_len_unchanged);
-      next = next_by a.words.now a.rules a.n a.truths.now a.falsities.now (λ i l. get_or-replicate 16 i every_lane 0 l) f.followed e.entered;
-    }
+    next_by a.words.now a.rules a.n a.truths.now a.falsities.now (λ i l. get_or-replicate 16 i every_lane 0 l) c.follow.ensures c.enter.ensures
