@@ -16,10 +16,9 @@ pub fn free_guesses(words: &[u16], x: Outline, free: &mut [u64], active: &mut [u
     ensures plane { Plane (Free x words.now) free.new × Plane (Free x words.now) active.new }
 {
     let patterns = Patterns::new();
-    let mut numbers = [0u16; 32];
-    number(x, &mut numbers[..]);
+    let numbers = number(x);
     for w in 0..free.len() {
-        let lanes = free_lanes(&patterns, words, x, &numbers[..], w as u16);
+        let lanes = free_lanes(&patterns, words, x, &numbers, w as u16);
         free[w] = lanes;
         active[w] = lanes;
     }

@@ -7,8 +7,8 @@ use Rattle.lanes.specs.Planes.{◌in_plane◌, until_none, until_more, until_all
 use Rattle.ruling.specs.Free.{Free}
 use Rattle.verdicts.proofs.free.free_guesses.Goals as goal
 
-pub number-requires : goal.number-requires
-number-requires c = (few_of c.requires.0, omega arith)
+pub number-numbers-requires : goal.number-numbers-requires
+number-numbers-requires c = few_of c.requires.0
 
 pub loop-w-init : goal.loop-w-init
 loop-w-init c =
@@ -21,7 +21,7 @@ overflow_cast-w c = omega (arith, c.requires.1, c.loop-w.invariant.1, c.loop-w-t
 pub free_lanes-lanes-requires : goal.free_lanes-lanes-requires
 free_lanes-lanes-requires c =
     let pre = c.requires in
-    (pre.0, omega (arith, c.number.ensures.numbers_len_unchanged), c.number.ensures.numbers, omega (arith, pre.1, c.loop-w.invariant.1, c.loop-w-test.true))
+    (pre.0, c.number-numbers.ensures, omega (arith, pre.1, c.loop-w.invariant.1, c.loop-w-test.true))
 
 pub bounds-active-w : goal.bounds-active-w
 bounds-active-w c = let l = c.loop-w in omega (arith, l.invariant.1, l.invariant.2, c.requires.2, c.loop-w-test.true)
