@@ -126,8 +126,12 @@ pub fn verdict(sheet: &[u8], ins: u16, outs: u16, guess: u32) -> Judged
     match for_guess(source, guess) {
         Source::Accepted(x) => match verdict_on(&words[..], x, guess as u16) {
             Verdict::Empty => Judged::Empty,
-            Verdict::Other(found) => Judged::Other { found },
-            Verdict::Verified(known, possible, sets) => Judged::Verified {
+            Verdict::Other { found } => Judged::Other { found },
+            Verdict::Verified {
+                known,
+                possible,
+                sets,
+            } => Judged::Verified {
                 known,
                 possible,
                 sets,

@@ -73,8 +73,12 @@ pub fn judged(program: &[u16], rules: usize, x: Outline, guess: u16) -> Outcome
 {
     match judge(program, rules, x, guess) {
         Verdict::Empty => Outcome::Empty,
-        Verdict::Other(_) => Outcome::Other,
-        Verdict::Verified(known, possible, sets) => Outcome::View(View {
+        Verdict::Other { .. } => Outcome::Other,
+        Verdict::Verified {
+            known,
+            possible,
+            sets,
+        } => Outcome::View(View {
             guess,
             known,
             possible,

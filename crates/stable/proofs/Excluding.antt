@@ -1,14 +1,13 @@
--- What a nogood is made of, and the nogoods kept. Assumes nothing.
-use Prim.Native.Nat.{ℕ, ◌+◌, ◌*◌, ◌≤◌, ◌<◌}
-use mathlib.Core.Path.{◌≡◌, refl, sym, subst, ◌∙◌}
+-- What a nogood is made of. Assumes nothing.
+use Prim.Native.Nat.{ℕ, ◌+◌, ◌*◌, ◌<◌}
+use mathlib.Core.Path.{◌≡◌, refl, sym, subst}
 use mathlib.Core.Bool.{Bool, true, false, not, ◌||◌}
 use mathlib.Core.List.{List}
 use mathlib.Core.Logic.{inl, inr, ⊎_elim}
 use native.Mathlib.Nat.{eq-zero-or-pos}
 use native.Mathlib.Omega.{arith}
-use lib.ListN.{length, get_or, set, length-set}
-use lib.Seq.{get_or-set_same, get_or-set_other}
-use Rattle.sets.specs.Decides.{decided, dec_imp, dec_eq}
+use lib.ListN.{get_or}
+use Rattle.sets.specs.Decides.{decided, dec_imp}
 use Rattle.sets.specs.Lists.{◌among◌, up_to, among-map, among-up_to}
 use Rattle.sets.specs.Sets.{◌∈◌, ◌⊆◌, ◌⊂◌, Meets, ◌meets?◌, ◌∩◌, ◌∪◌, ◌∖◌, ∅, single}
 use Rattle.sets.specs.Members.{some-member, ∈-∅, ∈-∩, ∈-∖, ∈-single, dec_∈, dec_meets, ⊆_refl, ⊆_antisym, ∪-⊆, meets-⊆, ⊆_∪_left, ⊆_∪_right}
@@ -17,7 +16,7 @@ use Rattle.semantics.specs.Definitions.Rules.{Rule}
 use Rattle.semantics.specs.Words.{rule_in, program_in}
 use Rattle.semantics.specs.Definitions.Day.{allowed}
 use Rattle.semantics.proofs.Theorems.Day.{dec_allowed}
-use Rattle.stable.specs.Nogoods.{Excludes, has_in, lacks_in, kept, Nogoods, Blocked, Blocks, SatisfiedIn}
+use Rattle.stable.specs.Nogoods.{Blocked, Blocks, SatisfiedIn}
 
 -- no member is left
 none_left : {a x : ℕ} → x ≡ ∅ → a ∈ x → ⊥
@@ -107,33 +106,3 @@ each-rule words n P f r m = let (k, l, e) = (among-map (rule_in words) (up_to n)
 pub among-program : (words : List ℕ) (n k : ℕ) → k < n → rule_in words k among program_in words n
 unfolding program_in
 among-program words n k l = (among-map (rule_in words) (up_to n)).1 (k, (among-up_to n).1 l, refl)
-
--- ---- the nogoods kept
-module _ (ins outs : ℕ) (p : List Rule) where
-  -- one in the place of another
-  pub keeps : (words : List ℕ) (n x y : ℕ) → 2 * kept ≤ length words → n < kept → Nogoods ins outs p words → Excludes ins outs p x y
-      → Nogoods ins outs p (set (set words (2 * n) x) (2 * n + 1) y)
-  keeps words n x y l h f r k b = ⊎_elim (λ e. rw e same) (λ d. other d) (decided (dec_eq k n))
-    where
-      once : List ℕ
-      once = set words (2 * n) x
-
-      has : has_in (set once (2 * n + 1) y) n ≡ x
-      has = get_or-set_other once (2 * n + 1) (2 * n) y 0 (omega arith) ∙ get_or-set_same words (2 * n) x 0 (omega arith)
-
-      lacks : lacks_in (set once (2 * n + 1) y) n ≡ y
-      lacks = get_or-set_same once (2 * n + 1) y 0 (omega (arith, length-set words (2 * n) x))
-
-      stays_at : (m : ℕ) → (m ≡ 2 * n → ⊥) → (m ≡ 2 * n + 1 → ⊥) → get_or (set once (2 * n + 1) y) m 0 ≡ get_or words m 0
-      stays_at m d e = get_or-set_other once (2 * n + 1) m y 0 (omega arith) ∙ get_or-set_other words (2 * n) m x 0 (omega arith)
-
-      same : Excludes ins outs p (has_in (set once (2 * n + 1) y) n) (lacks_in (set once (2 * n + 1) y) n)
-      same = rw (has, lacks) r
-
-      other : (k ≡ n → ⊥) → Excludes ins outs p (has_in (set once (2 * n + 1) y) k) (lacks_in (set once (2 * n + 1) y) k)
-      other d = rw (stays_at (2 * k) (λ e. d (omega arith)) (λ e. omega arith), stays_at (2 * k + 1) (λ e. omega arith) (λ e. d (omega arith))) (f k b)
-
-  -- a word behind them
-  pub behind : (words : List ℕ) (m v : ℕ) → 2 * kept ≤ m → Nogoods ins outs p words → Nogoods ins outs p (set words m v)
-  behind words m v l f k b =
-      rw (get_or-set_other words m (2 * k) v 0 (omega arith), get_or-set_other words m (2 * k + 1) v 0 (omega arith)) (f k b)

@@ -1,6 +1,8 @@
 -- The search for a smaller model among the sets that contain l: with the subsets, not below t, of what is beyond it. Assumes nothing.
 use Prim.Native.Nat.{ℕ, ◌-◌, ◌≤◌, ◌<◌}
 use mathlib.Core.Path.{◌≡◌, sym, subst}
+use mathlib.Core.Bool.{false}
+use Rattle.std.specs.Prelude.{Some}
 use mathlib.Core.List.{List}
 use mathlib.Core.Logic.{⊎_elim}
 use native.Mathlib.Omega.{arith}
@@ -8,11 +10,12 @@ use Rattle.sets.specs.Decides.{is_false}
 use Rattle.sets.specs.Sets.{◌⊆◌, ◌⊂◌, ◌∩◌, ◌∪◌, ◌∖◌}
 use Rattle.sets.specs.Members.{⊆_refl, ⊆_le, ⊂_less, ∩-⊆, none_between, next_less}
 use Rattle.semantics.specs.Definitions.Rules.{Rule}
+use Rattle.semantics.specs.Definitions.Stable.{smaller_model}
 use Rattle.semantics.specs.Theorems.Stable.{Model}
 use Rattle.semantics.proofs.Theorems.Stable.{dec_smaller}
 use Rattle.semantics.specs.Theorems.SingleHeads.{Positive}
 use Rattle.stable.specs.Growth.{Grown}
-use Rattle.stable.specs.Smaller.{SmallerOr, beyond_smaller, only_beyond}
+use Rattle.stable.specs.Smaller.{SmallerIfAny, beyond_smaller, only_beyond}
 
 pub record Tried (p : List Rule) (l beyond t : ℕ) : Type 0 where
   pub within : t ⊆ beyond
@@ -29,18 +32,13 @@ module _ (p : List Rule) (l beyond : ℕ) where
   }
 
 module _ {p : List Rule} {i l beyond t : ℕ} (plain_only : Positive p) (g : Grown p i l) (e : beyond ≡ i ∖ l) (r : Tried p l beyond t) where
-  pub tried_all : t ≤ 0 → Model p i → SmallerOr p i i
-  tried_all z m = record {
-    within = ⊆_refl;
-    model = m;
-    whole = λ _. is_false (dec_smaller p i) (λ h.
-        let (u, s, k) = (only_beyond plain_only g).0 h in
-        r.none u (subst (λ b. u ⊂ b) (sym e) s) (omega arith) k);
-  }
+  pub tried_all : t ≤ 0 → smaller_model p i ≡ false
+  tried_all z = is_false (dec_smaller p i) (λ h.
+      let (u, s, k) = (only_beyond plain_only g).0 h in
+      r.none u (subst (λ b. u ⊂ b) (sym e) s) (omega arith) k)
 
-  pub found : 0 < t → Model p (l ∪ ((t - 1) ∩ beyond)) → SmallerOr p i (l ∪ ((t - 1) ∩ beyond))
+  pub found : 0 < t → Model p (l ∪ ((t - 1) ∩ beyond)) → SmallerIfAny p i (Some (l ∪ ((t - 1) ∩ beyond)))
   found h m =
       let u = (t - 1) ∩ beyond in
       let less : u ⊂ beyond = record { within = ∩-⊆ (t - 1) beyond; differ = λ d. omega (arith, d, next_less t beyond h, ⊆_le r.within) } in
-      let s = beyond_smaller plain_only g (subst (λ b. u ⊂ b) e less) in
-      record { within = s.within; model = m; whole = λ d. absurd (s.differ d) }
+      (beyond_smaller plain_only g (subst (λ b. u ⊂ b) e less), m)

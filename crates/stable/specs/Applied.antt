@@ -1,9 +1,10 @@
 -- The rules whose bodies hold in a set. Assumes nothing.
-use Rattle.std.specs.Prelude.{ℕ, ◌+◌, ◌*◌, Bool, ◌&&◌, List, map, get_or}
-use Rattle.sets.specs.Lists.{keep, up_to}
+use Rattle.std.specs.Prelude.{ℕ, Bool, ◌&&◌, List, map}
+use Rattle.sets.specs.Lists.{keep}
 use Rattle.sets.specs.Sets.{◌⊆?◌, ∅}
 use Rattle.semantics.specs.Definitions.Rules.{Rule}
 use Rattle.semantics.specs.Definitions.Stable.{negations_hold, positive}
+use Rattle.stable.specs.declared.positive.PositiveRule.{PositiveRule}
 
 -- all body literals of the rule hold in the set i
 abbrev pub applies : ℕ → Rule → Bool
@@ -13,11 +14,10 @@ applies i r = r.plain ⊆? i && negations_hold i r
 unfoldable pub applied : ℕ → List Rule → List Rule
 applied i p = map positive (keep (applies i) p)
 
--- rules of heads and plain atoms in words, two a rule
-module _ (words : List ℕ) where
-  abbrev pub positive_in : ℕ → Rule
-  positive_in j = record { head = get_or words (2 * j) 0; plain = get_or words (2 * j + 1) 0; nots = ∅; not_nots = ∅ }
+-- the rule of a head and plain atoms
+abbrev pub positive_rule : PositiveRule → Rule
+positive_rule r = record { head = r.head; plain = r.plain; nots = ∅; not_nots = ∅ }
 
-  -- the first n rules
-  unfoldable pub positive_program_in : (n : ℕ) → List Rule
-  positive_program_in n = map positive_in (up_to n)
+-- the rules of heads and plain atoms
+unfoldable pub positive_program : List PositiveRule → List Rule
+positive_program rules = map positive_rule rules

@@ -6,4 +6,5 @@ pub mod Smaller
 pub mod SingleHeads
 pub mod Examples
 pub mod Nogoods
+pub mod Kept
 pub mod Tested

@@ -1,8 +1,7 @@
 -- Nogoods: each excludes many sets at once. Assumes nothing.
-use Rattle.std.specs.Prelude.{ℕ, ◌+◌, ◌*◌, ◌<◌, ◌≡◌, refl, true, false, ◌&&◌, List, ◌⊎◌, get_or, replicate}
-use Rattle.std.proofs.Common.{sym, ap, subst, ◌∙◌, inl, inr, ⊎_elim, arith}
+use Rattle.std.specs.Prelude.{ℕ, ◌≡◌, refl, true, false, ◌&&◌, List, ◌⊎◌}
+use Rattle.std.proofs.Common.{sym, ap, subst, ◌∙◌, inl, inr, ⊎_elim}
 use Rattle.std.proofs.Math.Bool.{and-false}
-use Rattle.std.proofs.lemmas.List.{get_or-replicate}
 use Rattle.sets.specs.Decides.{is_false, decided}
 use Rattle.sets.specs.Lists.{◌among◌}
 use Rattle.sets.specs.Sets.{◌∈◌, ◌⊆◌, ◌⊂◌, Meets, ◌∪◌, ◌∩◌, ◌∖◌, ∅, single}
@@ -20,24 +19,6 @@ use Rattle.stable.specs.Search.{Applies, reduct_model}
 -- no set that has every atom of x and none of y is a stable set that the masks allow
 abbrev pub Excludes : (ins outs : ℕ) → List Rule → (x y : ℕ) → Type 0
 Excludes ins outs p x y = (i : ℕ) → allowed x y i ≡ true → stable_under ins outs p i ≡ false
-
--- nogoods in words, two each: the atoms that a set has, and those that it lacks, to be excluded
-module _ (words : List ℕ) where
-  abbrev pub has_in : ℕ → ℕ
-  has_in k = get_or words (2 * k) 0
-
-  abbrev pub lacks_in : ℕ → ℕ
-  lacks_in k = get_or words (2 * k + 1) 0
-
--- so many nogoods are kept, in so many words: behind them stand the numbers of two
-abbrev pub kept : ℕ
-kept = 16
-
-abbrev pub nogood_words : ℕ
-nogood_words = 2 * kept + 2
-
-abbrev pub Nogoods : (ins outs : ℕ) → List Rule → (words : List ℕ) → Type 0
-Nogoods ins outs p words = (k : ℕ) → k < kept → Excludes ins outs p (has_in words k) (lacks_in words k)
 
 -- ---- a set of atoms u is unfounded in every set that has x and lacks y where each rule is blocked: with a head atom in u and no plain atom
 -- there it asks for an atom of y, forbids one of x, or has a head atom of x outside u
@@ -123,14 +104,8 @@ module _ (ins outs : ℕ) (p : List Rule) where
   }))
 
   -- no set has an atom and lacks it
-  none_excluded : Excludes ins outs p (single 0) (single 0)
+  pub none_excluded : Excludes ins outs p (single 0) (single 0)
   none_excluded i h =
       let (has, lacks) = (dec_allowed (single 0) (single 0) i).yes h in
       let zero = (∈-single 0 0).1 refl in
       absurd (lacks (record { common = 0; left = zero; right = has.into zero }))
-
-  -- words that are all 1, the set of atom 0, exclude nothing
-  pub none_yet : Nogoods ins outs p (replicate nogood_words 1)
-  none_yet k l =
-      subst (λ z. Excludes ins outs p z (lacks_in (replicate nogood_words 1) k)) (sym (get_or-replicate nogood_words (2 * k) 1 0 (omega arith)))
-      (subst (Excludes ins outs p 1) (sym (get_or-replicate nogood_words (2 * k + 1) 1 0 (omega arith))) none_excluded)

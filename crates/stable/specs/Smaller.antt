@@ -1,5 +1,5 @@
 -- Document 02, K6: what was grown in a set, and the smaller models. Assumes nothing.
-use Rattle.std.specs.Prelude.{ℕ, ◌<◌, ◌≡◌, false, not, List, ◌↔◌, eqb, ltb}
+use Rattle.std.specs.Prelude.{ℕ, ◌<◌, ◌≡◌, false, not, List, Option, Some, None, ◌↔◌, eqb, ltb}
 use Rattle.std.proofs.Common.{sym, ap, subst, ◌∙◌, inl, inr, ⊎_elim, lt_of_not-le}
 use Rattle.sets.specs.Decides.{decided, dec_one, dec_iff, dec_not, dec_eq, dec_le, dec_lt}
 use Rattle.sets.specs.Lists.{◌among◌, dec_some}
@@ -14,11 +14,10 @@ use Rattle.semantics.specs.Theorems.SingleHeads.{Positive}
 use Rattle.semantics.proofs.Theorems.SingleHeads.{negations_hold_lem}
 use Rattle.stable.specs.Growth.{OneIn, TwoHeads, ClosedIn, Grown, Supported}
 
--- r is a smaller model, or i itself where there is none
-pub record SmallerOr (p : List Rule) (i r : ℕ) : Type 0 where
-  pub within : r ⊆ i
-  pub model : Model p r
-  pub whole : r ≡ i → smaller_model p i ≡ false
+-- a smaller model, or none where there is none
+abbrev pub SmallerIfAny : (p : List Rule) (i : ℕ) → Option ℕ → Type 0
+SmallerIfAny p i (Some r) = (r ⊂ i) × Model p r
+SmallerIfAny p i None = smaller_model p i ≡ false
 
 -- i is closed
 pub whole_closed : (p : List Rule) (i : ℕ) → ClosedIn p i i

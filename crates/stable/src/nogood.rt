@@ -1,20 +1,29 @@
 // Nogoods: each excludes many sets at once.
-ghost use Rattle.std.specs.Prelude.{◌≡◌, true, false, List, ℕ, ◌+◌, ◌*◌, ◌≤◌, ◌<◌, length};
+ghost use Rattle.std.specs.Prelude.{◌≡◌, false, List, ℕ, ◌+◌, ◌*◌, ◌≤◌, length};
 ghost use Rattle.sets.specs.Sets.{◌⊂◌, ◌∪◌, ◌∖◌};
 ghost use Rattle.semantics.specs.Definitions.Rules.{Rule};
 ghost use Rattle.semantics.specs.Words.{rule_in, program_in};
 ghost use Rattle.semantics.specs.Definitions.Day.{allowed};
 ghost use Rattle.semantics.specs.Theorems.Stable.{Model};
 ghost use Rattle.stable.specs.Applied.{applied};
-ghost use Rattle.stable.specs.Nogoods.{Excludes, has_in, lacks_in, kept, nogood_words, Nogoods, Blocks, SatisfiedIn};
+ghost use Rattle.stable.specs.Nogoods.{Excludes, Blocks, SatisfiedIn};
 
 use sets::{Set, has_and_lacks, highest, meets};
 
 // No set that has every atom of `has` and none of `lacks` is a stable set that the masks allow.
-#[derive(Clone, Copy)]
+#[derive(Clone, Copy, PartialEq, Eq, Debug)]
 pub struct Nogood {
     pub has: u16,
     pub lacks: u16,
+}
+
+impl Nogood {
+    // Does it exclude i?
+    pub fn excludes(self, i: u16) -> bool
+        ensures { result ≡ allowed self.has self.lacks i }
+    {
+        has_and_lacks(i, self.has, self.lacks)
+    }
 }
 
 // By rule j: it fails in every set that has its plain and "not not" atoms, and no "not" or head atom of it.
@@ -96,41 +105,4 @@ pub fn by_smaller(program: &[u16], rules: usize, i: u16, s: u16) -> Nogood
         r = block(program, j, i, s, r);
     }
     r
-}
-
-// Does nogood k exclude i? Nogoods stand in words, two each.
-pub fn excludes(nogoods: &[u16], k: usize, i: u16) -> bool
-    requires { 2 * k + 2 ≤ length nogoods.now }
-    ensures { result ≡ allowed (has_in nogoods.now k) (lacks_in nogoods.now k) i }
-{
-    let at = 2 * k;
-    has_and_lacks(i, nogoods[at], nogoods[at + 1])
-}
-
-// The number of the first nogood that excludes i, or 16 where none does; what is promised is that one below 16 does.
-pub fn excluded_by(nogoods: &[u16], i: u16) -> usize
-    requires { 2 * kept ≤ length nogoods.now }
-    ensures { result < kept → allowed (has_in nogoods.now result) (lacks_in nogoods.now result) i ≡ true }
-{
-    for k in 0..16 {
-        if excludes(nogoods, k, i) {
-            return k;
-        }
-    }
-    16
-}
-
-// Keeps a nogood in the place of the oldest, as the one to be asked first. Behind the nogoods stand the number of that one, and that of the
-// oldest.
-pub fn keep(nogood: Nogood, nogoods: &mut [u16])
-    requires { nogood_words ≤ length nogoods.old }
-    ensures nogoods_len_unchanged { length nogoods.new ≡ length nogoods.old }
-    ensures by_index { (ins outs : ℕ) (p : List Rule) → Nogoods ins outs p nogoods.old → Excludes ins outs p nogood.has nogood.lacks → Nogoods ins outs p nogoods.new }
-{
-    let oldest = nogoods[33] % 16;
-    let at = 2 * oldest as usize;
-    nogoods[at] = nogood.has;
-    nogoods[at + 1] = nogood.lacks;
-    nogoods[32] = oldest;
-    nogoods[33] = oldest + 1;
 }

@@ -4,14 +4,9 @@ ghost use Rattle.semantics.specs.Words.{rule_in};
 ghost use Rattle.stable.specs.Applied.{applies as appliesIn};
 ghost use Rattle.stable.specs.Tested.{ReducedBy};
 
+use super::nogood::{Nogood, by_rule};
+use super::positive::PositiveRule;
 use sets::{has_and_lacks, meets};
-
-// What reducing by a set answers: the set is a model, and so many rules are written; or a rule, by number, is not satisfied in it.
-#[derive(Clone, Copy)]
-pub enum Reduced {
-    Model(usize),
-    Fails(usize),
-}
 
 // Do all body literals of rule j hold in i?
 fn applies(program: &[u16], j: usize, i: u16) -> bool
@@ -22,10 +17,15 @@ fn applies(program: &[u16], j: usize, i: u16) -> bool
     has_and_lacks(i, program[at + 1] | program[at + 3], program[at + 2])
 }
 
-// Writes the rules whose bodies hold in i, by their heads and plain atoms, two words a rule, and says how many they are. The first of
-// them whose head doesn't meet i ends it: i is no model.
-pub fn reduce(program: &[u16], rules: usize, i: u16, out: &mut [u16]) -> Reduced
-    requires { (4 * rules ≤ length program.now) × (2 * rules ≤ length out.old) }
+// Writes the rules whose bodies hold in i, by their heads and plain atoms, and says how many they are. The first of them whose head doesn't
+// meet i ends it: i is no model, and the rule's nogood is the answer.
+pub fn reduce(
+    program: &[u16],
+    rules: usize,
+    i: u16,
+    out: &mut [PositiveRule],
+) -> Result<usize, Nogood>
+    requires { (4 * rules ≤ length program.now) × (rules ≤ length out.old) }
     ensures out_len_unchanged { length out.new ≡ length out.old }
     ensures reduced_by { ReducedBy program.now rules i out.new result }
 {
@@ -35,13 +35,14 @@ pub fn reduce(program: &[u16], rules: usize, i: u16, out: &mut [u16]) -> Reduced
             let from = 4 * j;
             let head = program[from];
             if !meets(head, i) {
-                return Reduced::Fails(j);
+                return Err(by_rule(program, j));
             }
-            let to = 2 * n;
-            out[to] = head;
-            out[to + 1] = program[from + 1];
+            out[n] = PositiveRule {
+                head,
+                plain: program[from + 1],
+            };
             n += 1;
         }
     }
-    Reduced::Model(n)
+    Ok(n)
 }

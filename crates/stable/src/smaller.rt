@@ -1,76 +1,48 @@
-// A smaller model of rules of heads and plain atoms, in words, two a rule, of which a set i is a model.
-ghost use Rattle.std.specs.Prelude.{◌≡◌, true, false, not, ◌&&◌, ◌+◌, ◌*◌, ◌≤◌, ltb, length};
-ghost use Rattle.semantics.specs.Definitions.Stable.{satisfies, is_model};
-ghost use Rattle.stable.specs.Applied.{positive_in, positive_program_in};
+// A smaller model of rules of heads and plain atoms, of which a set i is a model.
+ghost use Rattle.std.specs.Prelude.{◌≡◌, true, false, MatchOption};
+ghost use Rattle.semantics.specs.Definitions.Stable.{is_model};
+ghost use Rattle.stable.specs.Applied.{positive_program};
 ghost use Rattle.stable.specs.Growth.{Grown, TwoHeads};
-ghost use Rattle.stable.specs.Smaller.{SmallerOr};
+ghost use Rattle.stable.specs.Smaller.{SmallerIfAny};
 
 use super::growth::{grown, supported};
-use sets::{Set, highest, meets, subset};
-
-// Is rule j satisfied in i?
-fn positive_satisfied(positive: &[u16], j: usize, i: u16) -> bool
-    requires { 2 * j + 2 ≤ length positive.now }
-    ensures { result ≡ satisfies i (positive_in positive.now j) }
-{
-    let at = 2 * j;
-    let plain = subset(positive[at + 1], i);
-    let head = meets(positive[at], i);
-    !plain | head
-}
-
-// Is j the number of one of so many rules, and that rule not satisfied in i?
-fn positive_fails(positive: &[u16], rules: usize, j: usize, i: u16) -> bool
-    requires { 2 * rules ≤ length positive.now }
-    ensures { result ≡ ltb j rules && not (satisfies i (positive_in positive.now j)) }
-{
-    if j < rules {
-        return !positive_satisfied(positive, j, i);
-    }
-    false
-}
+use super::positive::PositiveRule;
+use sets::{Set, highest};
 
 // Is i a model of the rules?
-fn is_model(positive: &[u16], rules: usize, i: u16) -> bool
-    requires { 2 * rules ≤ length positive.now }
-    ensures { result ≡ is_model (positive_program_in positive.now rules) i }
+fn is_model(positive: &[PositiveRule], i: u16) -> bool
+    ensures { result ≡ is_model (positive_program positive.now) i }
 {
-    for j in 0..rules {
-        if !positive_satisfied(positive, j, i) {
-            return false;
-        }
-    }
-    true
+    positive.iter().all(|rule| rule.satisfied(i))
 }
 
-// The first smaller model among the proper subsets of i that contain what was grown, l, by falling number; or i where there is none. It is
-// called only where l is no model, so that a rule has two head atoms in i. The rule that failed in the subset before is asked first: it often
-// fails again.
-fn search(positive: &[u16], rules: usize, i: u16, l: u16) -> u16
-    requires rules_in_bounds { 2 * rules ≤ length positive.now }
-    requires i_value { is_model (positive_program_in positive.now rules) i ≡ true }
-    requires grown { Grown (positive_program_in positive.now rules) i l × (is_model (positive_program_in positive.now rules) l ≡ false) }
-    requires two_heads { TwoHeads (positive_program_in positive.now rules) i }
-    ensures { SmallerOr (positive_program_in positive.now rules) i result }
+// The first smaller model among the proper subsets of i that contain what was grown, l, by falling number, if any. It is called only where l is
+// no model, so that a rule has two head atoms in i. The rule that failed in the subset before is asked first: it often fails again.
+fn search(positive: &[PositiveRule], i: u16, l: u16) -> Option<u16>
+    requires i_value { is_model (positive_program positive.now) i ≡ true }
+    requires grown { Grown (positive_program positive.now) i l × (is_model (positive_program positive.now) l ≡ false) }
+    requires two_heads { TwoHeads (positive_program positive.now) i }
+    ensures { SmallerIfAny (positive_program positive.now) i result }
 {
     let beyond = i.minus(l);
-    let mut found = i;
-    let mut last = rules;
+    let mut found = None;
+    let mut last: Option<PositiveRule> = None;
     let mut t = beyond;
+    // The scope names this form: labelled nested loops over submasks and rules, which the first smaller model leaves.
     'subsets: while t > 0 {
         t = (t - 1) & beyond;
         let s = l | t;
-        if positive_fails(positive, rules, last, s) {
+        if last.is_some_and(|rule| !rule.satisfied(s)) {
             continue 'subsets;
         }
         let mut j = 0;
         'rules: loop {
-            if rules <= j {
-                found = s;
+            if positive.len() <= j {
+                found = Some(s);
                 break 'subsets;
             }
-            if !positive_satisfied(positive, j, s) {
-                last = j;
+            if !positive[j].satisfied(s) {
+                last = Some(positive[j]);
                 break 'rules;
             }
             j += 1;
@@ -79,22 +51,22 @@ fn search(positive: &[u16], rules: usize, i: u16, l: u16) -> u16
     found
 }
 
-// A smaller model than i, or i where there is none. An atom that no rule has as its only head atom in i can be left out. Otherwise what is
-// grown in i decides: all of it, or a smaller model; only where a rule has two head atoms in i it may be neither.
-pub fn smaller_model(positive: &[u16], rules: usize, i: u16) -> u16
-    requires { (2 * rules ≤ length positive.now) × (is_model (positive_program_in positive.now rules) i ≡ true) }
-    ensures { SmallerOr (positive_program_in positive.now rules) i result }
+// A smaller model than i, if any. An atom that no rule has as its only head atom in i can be left out. Otherwise what is grown in i decides: all
+// of it, or a smaller model; only where a rule has two head atoms in i it may be neither.
+pub fn smaller_model(positive: &[PositiveRule], i: u16) -> Option<u16>
+    requires { is_model (positive_program positive.now) i ≡ true }
+    ensures { SmallerIfAny (positive_program positive.now) i result }
 {
-    let unsupported = i.minus(supported(positive, rules, i));
+    let unsupported = i.minus(supported(positive, i));
     if unsupported != 0 {
-        return i.minus(highest(unsupported));
+        return Some(i.minus(highest(unsupported)));
     }
-    let l = grown(positive, rules, i);
+    let l = grown(positive, i);
     if l == i {
-        return i;
+        return None;
     }
-    if is_model(positive, rules, l) {
-        return l;
+    if is_model(positive, l) {
+        return Some(l);
     }
-    search(positive, rules, i, l)
+    search(positive, i, l)
 }

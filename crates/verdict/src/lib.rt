@@ -18,12 +18,18 @@ use guess::outline::Outline;
 use guess::reduct::reduct;
 use pass::{Gathered, gather};
 
-// What is said of a guess: no belief set; the guess found, which is another; or known, possible and the number of belief sets.
-#[derive(Clone, Copy)]
+// What is said of a guess: no belief set; the guess found, which is another; or what is known, what is possible and the number of belief sets.
+#[derive(Clone, Copy, PartialEq, Eq, Debug)]
 pub enum Verdict {
     Empty,
-    Other(u16),
-    Verified(u16, u16, usize),
+    Other {
+        found: u16,
+    },
+    Verified {
+        known: u16,
+        possible: u16,
+        sets: usize,
+    },
 }
 
 // The verdict, by what is gathered of the belief sets.
@@ -36,9 +42,13 @@ fn decide(y: Gathered, x: Outline, guess: u16) -> Verdict
     }
     let other = found(x, y.known, y.possible);
     if other == guess {
-        return Verdict::Verified(y.known, y.possible, y.sets);
+        return Verdict::Verified {
+            known: y.known,
+            possible: y.possible,
+            sets: y.sets,
+        };
     }
-    Verdict::Other(other)
+    Verdict::Other { found: other }
 }
 
 // The verdict on a guess whose reduct is the first rules of a program, under the day's masks. No word is lent for the belief sets.

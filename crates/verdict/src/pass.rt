@@ -9,11 +9,14 @@ ghost use Rattle.verdict.specs.Verdicts.{gathered_by};
 ghost use Rattle.verdict.specs.Over.{over};
 
 use sets::{full, power};
+use stable::kept::Nogoods;
+use stable::nogood::Nogood;
+use stable::positive::PositiveRule;
 use stable::test_set;
 
 // What the pass gathers: the atoms that are known and those that are possible in the stable sets, how many these are, and how many sets
 // were tested.
-#[derive(Clone, Copy)]
+#[derive(Clone, Copy, PartialEq, Eq, Debug)]
 pub struct Gathered {
     pub known: u16,
     pub possible: u16,
@@ -31,7 +34,7 @@ fn put(i: u16, n: usize, out: &mut [u16])
 }
 
 // Known and possible in one pass, which tests each set of atoms once, under the day's masks; and the sets that pass, by rising number, as
-// many as there are words lent. At the beginning the nogoods exclude nothing.
+// many as there are words lent. At the beginning the nogoods exclude nothing: no set has an atom and lacks it.
 pub fn gather(
     program: &[u16],
     rules: usize,
@@ -45,22 +48,14 @@ pub fn gather(
     ensures out_after { out.new ≡ over (stable_sets atoms (program_in program.now rules ++ day_constraints ins outs)) out.old }
 {
     let end = power(atoms as u16);
-    let mut room = [0u16; 142];
-    let mut nogoods = [1u16; 34];
+    let mut room = [PositiveRule { head: 0, plain: 0 }; 71];
+    let mut nogoods = Nogoods::new(Nogood { has: 1, lacks: 1 });
     let mut known = full(atoms as u16);
     let mut possible = 0;
     let mut sets = 0;
     let mut tests = 0;
     for i in 0..end {
-        if test_set(
-            program,
-            rules,
-            ins,
-            outs,
-            i,
-            &mut nogoods[..],
-            &mut room[..],
-        ) {
+        if test_set(program, rules, ins, outs, i, &mut nogoods, &mut room[..]) {
             put(i, sets, &mut out[..]);
             known = known & i;
             possible = possible | i;

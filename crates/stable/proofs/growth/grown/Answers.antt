@@ -3,7 +3,7 @@
 use mathlib.Core.Path.{sym}
 use native.Mathlib.Omega.{arith}
 use Rattle.sets.specs.Members.{∅-⊆, ⊆_le, ⊂_less}
-use Rattle.stable.specs.Applied.{positive_program_in}
+use Rattle.stable.specs.Applied.{positive_program}
 use Rattle.stable.specs.Smaller.{whole_closed}
 use Rattle.stable.proofs.Growing.{all_grown}
 use Rattle.stable.proofs.growth.grown.Goals as goal
@@ -21,7 +21,7 @@ loop-l-smaller c =
     let l = c.loop-l in
     let g = c.pass-m.ensures in
     let a = c.args in
-    let whole = whole_closed (positive_program_in a.positive.now a.rules) a.i in
+    let whole = whole_closed (positive_program a.positive.now) a.i in
     let more = ⊂_less (record { within = g.kept; differ = λ e. c.if-m-l.false (sym e) }) in
     omega (arith, more, ⊆_le (g.within whole (l.invariant a.i whole)))
 
@@ -34,4 +34,4 @@ pub returns : goal.returns
 returns c =
     let l = c.loop-l in
     let a = c.args in
-    all_grown (positive_program_in a.positive.now a.rules) l.invariant c.loop-l-test.false
+    all_grown (positive_program a.positive.now) l.invariant c.loop-l-test.false

@@ -2,12 +2,12 @@
 -- nothing.
 use Prim.Native.Nat.{ℕ, ◌-◌}
 use Rattle.sets.specs.Sets.{◌⊆◌}
-use Rattle.stable.specs.Applied.{positive_program_in}
+use Rattle.stable.specs.Applied.{positive_program}
 use Rattle.stable.specs.Growth.{ClosedIn}
 use Rattle.stable.proofs.growth.grown.Given as goal
 
 abbrev pub invariant-loop-l : goal.invariant-loop-l
-invariant-loop-l l = (x : ℕ) → ClosedIn (positive_program_in l.positive l.rules) l.i x → l.l ⊆ x
+invariant-loop-l l = (x : ℕ) → ClosedIn (positive_program l.positive) l.i x → l.l ⊆ x
 
 abbrev pub decreases-loop-l : goal.decreases-loop-l
 decreases-loop-l l = l.i - l.l

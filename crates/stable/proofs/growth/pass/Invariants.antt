@@ -1,7 +1,8 @@
 -- `stable::growth::pass` meets its contract. Assumes nothing.
-use Prim.Native.Nat.{◌≤◌}
-use Rattle.stable.proofs.Growing.{GrowsBelow}
+use lib.ListN.{take}
+use Rattle.stable.specs.Applied.{positive_program}
+use Rattle.stable.specs.Growth.{Grows}
 use Rattle.stable.proofs.growth.pass.Given as goal
 
-abbrev pub invariant-loop-j : goal.invariant-loop-j
-invariant-loop-j l = (l.j ≤ l.rules) × GrowsBelow l.positive l.i l.rules l.j l.l l.m
+abbrev pub invariant-loop-rule : goal.invariant-loop-rule
+invariant-loop-rule l = Grows (positive_program (take l.rule-index l.positive)) l.i l.l l.m

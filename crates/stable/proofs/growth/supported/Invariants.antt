@@ -1,9 +1,11 @@
 -- `stable::growth::supported` meets its contract. Assumes nothing.
-use Prim.Native.Nat.{ℕ, ◌≤◌}
+use Prim.Native.Nat.{ℕ}
 use mathlib.Core.Logic.{◌↔◌}
+use lib.ListN.{take}
 use Rattle.sets.specs.Sets.{◌∈◌}
-use Rattle.stable.proofs.Growing.{SupportedBelow}
+use Rattle.stable.specs.Applied.{positive_program}
+use Rattle.stable.specs.Growth.{Supported}
 use Rattle.stable.proofs.growth.supported.Given as goal
 
-abbrev pub invariant-loop-j : goal.invariant-loop-j
-invariant-loop-j l = (l.j ≤ l.rules) × ((a : ℕ) → a ∈ l.set ↔ SupportedBelow l.positive l.i l.j a)
+abbrev pub invariant-loop-rule : goal.invariant-loop-rule
+invariant-loop-rule l = (a : ℕ) → a ∈ l.set ↔ Supported (positive_program (take l.rule-index l.positive)) l.i a

@@ -11,7 +11,7 @@ use Rattle.semantics.specs.Definitions.Pass.{having, pass_over, one_pass}
 use Rattle.semantics.specs.Definitions.Day.{day_constraints}
 use Rattle.semantics.proofs.Theorems.Pass.{one_pass_lem}
 use Rattle.semantics.proofs.Theorems.Day.{stable-under}
-use Rattle.stable.specs.Nogoods.{none_yet}
+use Rattle.stable.specs.Nogoods.{none_excluded}
 use Rattle.verdict.specs.Over.{over_long}
 use Rattle.verdict.proofs.Passing.{written_to, gathered_none, written_none, gathers, writes, passes_over}
 use borrow.Author.Rules.{rules}
@@ -26,14 +26,14 @@ pub loop-i-init : goal.loop-i-init
 loop-i-init c =
     let a = c.args in
     let p = program_in a.program.now a.rules ++ day_constraints a.ins a.outs in
-    (omega arith, omega arith, omega arith, gathered_none a.atoms p c.full-known.ensures, written_none a.atoms p a.out.now, search rules, (refl, none_yet a.ins a.outs (program_in a.program.now a.rules)))
+    (omega arith, omega arith, omega arith, gathered_none a.atoms p c.full-known.ensures, written_none a.atoms p a.out.now, search rules, c.new-nogoods.ensures a.ins a.outs (program_in a.program.now a.rules) (none_excluded a.ins a.outs (program_in a.program.now a.rules)))
 
 pub test_set-requires : goal.test_set-requires
 test_set-requires c =
     let l = c.loop-i in
     record {
-      rules_in_bounds = (c.requires.0, omega (arith, l.invariant.5, c.requires.1), omega (arith, l.invariant.6.0));
-      nogoods = l.invariant.6.1;
+      rules_in_bounds = (c.requires.0, omega (arith, l.invariant.5, c.requires.1));
+      nogoods = l.invariant.6;
     }
 
 pub loop-i-preserved : goal.loop-i-preserved
@@ -44,7 +44,6 @@ loop-i-preserved c =
     let p = program_in a.program.now a.rules ++ day_constraints a.ins a.outs in
     let answer = t.ensures.value ∙ sym (stable-under a.ins a.outs (program_in a.program.now a.rules) l.i) in
     let room = t.ensures.room_len_unchanged ∙ l.invariant.5 in
-    let long = t.ensures.nogoods_len_unchanged ∙ l.invariant.6.0 in
     elim c.if-test_set.branch [
       | then-test_set w ↦
           let told = sym w.if-test_set.true ∙ answer in (
@@ -54,7 +53,7 @@ loop-i-preserved c =
             same w.known-is w.possible-is w.sets-is refl ∙ gathers a.atoms p l.i l.invariant.3 told,
             w.out-is ∙ (w.put.ensures ∙ writes a.atoms p l.i l.invariant.3 a.out.now l.invariant.4 (sym told)),
             room,
-            (long, t.ensures.nogoods_2),
+            t.ensures.nogoods_2,
           )
       | else-test_set w ↦
           let told = sym w.if-test_set.false ∙ answer in (
@@ -64,7 +63,7 @@ loop-i-preserved c =
             same w.known-is w.possible-is w.sets-is refl ∙ gathers a.atoms p l.i l.invariant.3 told,
             w.out-is ∙ passes_over a.atoms p l.i l.invariant.3 a.out.now l.invariant.4 (sym told),
             room,
-            (long, t.ensures.nogoods_2),
+            t.ensures.nogoods_2,
           )
     ]
 
