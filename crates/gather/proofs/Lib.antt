@@ -1,4 +1,3 @@
--- What the proofs cite: words stored one after the other, the digest of a rule, and the rules at a set, rule by rule.
-pub mod Stored
+-- What the proofs cite: the digest of a rule, and the rules at a set, rule by rule.
 pub mod Digesting
 pub mod Gathering

@@ -21,12 +21,6 @@ returns-then-e-eq0 c =
       gathered_at = fails a.x a.words.now a.i c.requires.1 c.requires.2 h told (rule_is a.x a.words.now a.i c.requires.1 c.requires.2 h c.at_set-e.ensures) c.if-e-eq0.true;
     }
 
-pub put-requires : goal.put-requires
-put-requires c = omega (arith, c.loop-r.invariant.0.few, c.requires.1.stand, c.requires.3)
-
-pub overflow_add-n : goal.overflow_add-n
-overflow_add-n c = omega (arith, c.loop-r.invariant.0.few, c.requires.1.stand, c.requires.0.few_rules)
-
 pub loop-r-preserved : goal.loop-r-preserved
 loop-r-preserved c =
     let a = c.args in

@@ -1,15 +1,10 @@
 -- `candidates::support::support_by` meets its contract. Assumes nothing.
-use Prim.Native.Nat.{◌-◌}
 use native.Mathlib.Omega.{arith}
-use lib.Bits.{and_le_r}
 use Rattle.candidates.proofs.Lanes.{none-added, atom_added, all_added}
 use Rattle.candidates.proofs.support.support_by.Goals as goal
 
 pub loop-rest-init : goal.loop-rest-init
 loop-rest-init c = let a = c.args in none-added a.r a.w a.by.now c.minus-rest.ensures
-
-pub loop-rest-smaller : goal.loop-rest-smaller
-loop-rest-smaller c = let l = c.loop-rest in omega (arith, and_le_r l.rest (l.rest - 1))
 
 pub loop-rest-preserved : goal.loop-rest-preserved
 loop-rest-preserved c =

@@ -18,17 +18,11 @@ pub loop-a-init : goal.loop-a-init
 unfolding set_of
 loop-a-init c = (at_first _, refl, refl)
 
-pub has-k-requires : goal.has-k-requires
-has-k-requires c = omega (arith, c.loop-a-test.true, c.requires.0)
-
 pub has-k_in-requires : goal.has-k_in-requires
 has-k_in-requires c =
     let l = c.loop-a in
     let h = low _ c.requires l.invariant.0 c.loop-a-test.true in
     omega (arith, h)
-
-pub include-unknown-requires : goal.include-unknown-requires
-include-unknown-requires c = omega (arith, c.loop-a-test.true, c.requires.0)
 
 pub overflow_add-j : goal.overflow_add-j
 overflow_add-j c =
@@ -36,17 +30,11 @@ overflow_add-j c =
     let h = low _ c.requires l.invariant.0 c.loop-a-test.true in
     omega (arith, h, at_most_one c.has-k.result c.from-j.ensures)
 
-pub has-m-requires : goal.has-m-requires
-has-m-requires c = omega (arith, c.loop-a-test.true, c.requires.0)
-
 pub has-m_in-requires : goal.has-m_in-requires
 has-m_in-requires c =
     let l = c.loop-a in
     let h = low _ c.requires l.invariant.0 c.loop-a-test.true in
     omega (arith, h, at_most_one c.has-k.result c.from-j.ensures)
-
-pub include-maybe-requires : goal.include-maybe-requires
-include-maybe-requires c = omega (arith, c.loop-a-test.true, c.requires.0)
 
 pub overflow_add-j-in-loop-a : goal.overflow_add-j-in-loop-a
 overflow_add-j-in-loop-a c =

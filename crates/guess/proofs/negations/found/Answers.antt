@@ -10,12 +10,6 @@ pub loop-a-init : goal.loop-a-init
 unfolding set_of
 loop-a-init c = (at_first _, refl)
 
-pub has-k-requires : goal.has-k-requires
-has-k-requires c = omega (arith, c.loop-a-test.true, c.requires.0)
-
-pub has-unknown-requires : goal.has-unknown-requires
-has-unknown-requires c = omega (arith, c.loop-a-test.true, c.requires.0)
-
 pub include-guess-requires : goal.include-guess-requires
 include-guess-requires c =
     let l = c.loop-a in
@@ -27,12 +21,6 @@ overflow_add-j c =
     let l = c.loop-a in
     let h = low _ c.requires l.invariant.0 c.loop-a-test.true in
     omega (arith, h, at_most_one c.has-k.result c.from-j.ensures)
-
-pub has-m-requires : goal.has-m-requires
-has-m-requires c = omega (arith, c.loop-a-test.true, c.requires.0)
-
-pub has-may-requires : goal.has-may-requires
-has-may-requires c = omega (arith, c.loop-a-test.true, c.requires.0)
 
 pub include-guess-requires-in-loop-a : goal.include-guess-requires-in-loop-a
 include-guess-requires-in-loop-a c =

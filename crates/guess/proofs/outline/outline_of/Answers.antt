@@ -18,9 +18,6 @@ counted c =
     ap₂ ◌+◌ (c.size.ensures ∙ ap size c.in_masks-k_atoms.ensures) (c.size-2.ensures ∙ ap size c.in_masks-m_atoms.ensures)
     ∙ sym (k-size a.atoms (rules_in a.words.now a.rules) c.requires.below)
 
-pub overflow_add-negations : goal.overflow_add-negations
-overflow_add-negations c = omega (arith, counted c, c.requires.few_negations)
-
 pub returns : goal.returns
 returns c =
     let p = c.requires in

@@ -18,15 +18,6 @@ loop-j-init c =
     let by = c.assumed-by.result in
     none_written by.unknown by.maybe a.words.now a.out.now
 
-pub reduce-requires : goal.reduce-requires
-reduce-requires c = omega (arith, c.requires.0.stand, c.loop-j-test.true)
-
-pub overflow_add-n : goal.overflow_add-n
-overflow_add-n c =
-    let l = c.loop-j in
-    let pre = c.requires in
-    omega (arith, l.invariant.few, pre.0.few_rules)
-
 pub loop-j-preserved : goal.loop-j-preserved
 loop-j-preserved c =
     let a = c.args in
