@@ -6,20 +6,21 @@ use Rattle.sets.specs.Sets.{◌∈◌, ◌⊆◌, ◌∩◌, ◌∖◌}
 use Rattle.sets.specs.Members.{dec_⊆, ∈-∅}
 use Rattle.lanes.specs.Lanes.{Lanes, lanes_self, lanes_is, lanes_iff, lanes_and, lanes_minus}
 use Rattle.lanes.specs.Planes.{◌in_plane◌, Word, word_self}
+use Rattle.lanes.specs.declared.noted.Entry.{Entry}
 use Rattle.lanes.specs.Noted.{Noted, InWord, noted_iff, noted-none}
 
 -- i is stable for the lanes `stable` of word w, and needs `needed`: the active ones of them that lack something leave, and the others take i in
-pub record WordNoted (w stable i needed : ℕ) (active table active' table' : List ℕ) : Type 0 where
+pub record WordNoted (w stable i needed : ℕ) (active : List ℕ) (table : List Entry) (active' : List ℕ) (table' : List Entry) : Type 0 where
   pub long : length active' ≡ length active
   pub others : {v : ℕ} → (v ≡ w → ⊥) → get_or active' v 0 ≡ get_or active v 0
   pub left : Word (λ g. (g in_plane active) × (g % 64 ∈ stable → needed ⊆ g)) w (get_or active' w 0)
   pub entries : Noted (λ g. (g / 64 ≡ w) × (g in_plane active) × (g % 64 ∈ stable) × (needed ⊆ g)) i table table'
 
-module _ (w stable i needed : ℕ) (active table : List ℕ) where
+module _ (w stable i needed : ℕ) (active : List ℕ) (table : List Entry) where
   found : Lanes (λ b. (b ∈ stable) × ((64 * w + b) in_plane active)) (stable ∩ get_or active w 0)
   found = lanes_and lanes_self (word_self active w)
 
-  pub word_noted : w < length active → {having z lanes : ℕ} {table' : List ℕ} → Word (λ g. needed ⊆ g) w having
+  pub word_noted : w < length active → {having z lanes : ℕ} {table' : List Entry} → Word (λ g. needed ⊆ g) w having
       → z ≡ get_or active w 0 ∖ (stable ∩ get_or active w 0 ∖ having) → Noted (InWord w lanes) i table table' → lanes ≡ stable ∩ get_or active w 0 ∩ having
       → WordNoted w stable i needed active table (set active w z) table'
   word_noted h {table' = table'} c e n same = record {

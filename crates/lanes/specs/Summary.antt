@@ -4,7 +4,8 @@ use Rattle.std.proofs.Common.{sym, ap, ◌∙◌, append-nil, inl, inr, length-a
 use Rattle.sets.specs.Decides.{Decides}
 use Rattle.sets.specs.Lists.{◌among◌, only, all_snoc, among-append, here, foldl_snoc}
 use Rattle.sets.specs.Sets.{◌⊆◌, ◌∩◌, ◌∪◌, full, ⋂, ⋃}
-use Rattle.lanes.specs.Noted.{Entry, entry, with_set}
+use Rattle.lanes.specs.declared.noted.Entry.{Entry}
+use Rattle.lanes.specs.Noted.{entry, with_set}
 
 -- the entry after the sets vs
 abbrev pub summary : ℕ → List ℕ → Entry

@@ -1,38 +1,42 @@
-// A table of three words a number: the atoms in every set that it took in, the atoms in some of them, and how many there were.
+// A table with an entry for each number, of the sets that it took in.
 ghost use Rattle.std.specs.Prelude.{◌≡◌, ℕ, ◌+◌, ◌*◌, ◌≤◌, ◌<◌, length, get_or};
 ghost use Rattle.sets.specs.Sets.{◌∈◌};
-ghost use Rattle.lanes.specs.Planes.{◌in_plane◌};
-ghost use Rattle.lanes.specs.Noted.{Noted, InWord};
+ghost use Rattle.lanes.specs.Noted.{entry_at, with_set, Noted, InWord};
 ghost use Rattle.lanes.specs.Step.{WordNoted};
 
 use super::cube::Patterns;
 use sets::Set;
 
-// The entry of g takes the set i in.
-fn take_in(table: &mut [u16], g: usize, i: u16)
-    requires { (3 * g + 3 ≤ length table.old) × (get_or table.old (3 * g + 2) 0 < 65535) }
-    ensures { Noted (λ h. h ≡ g) i table.old table.new }
-{
-    let at = 3 * g;
-    let known = table[at];
-    let possible = table[at + 1];
-    let number = table[at + 2];
-    table[at] = known & i;
-    table[at + 1] = possible | i;
-    table[at + 2] = number + 1;
+// The atoms in every set that was taken in, the atoms in some of them, and how many there were.
+#[derive(Clone, Copy, PartialEq, Eq, Debug, Default)]
+pub struct Entry {
+    pub known: u16,
+    pub possible: u16,
+    pub sets: u16,
+}
+
+impl Entry {
+    // It takes the set i in.
+    fn take_in(&mut self, i: u16)
+        requires { self.old.sets < 65535 }
+        ensures { self.new ≡ with_set i self.old }
+    {
+        self.known &= i;
+        self.possible |= i;
+        self.sets += 1;
+    }
 }
 
 // The entries of these lanes of word w take the set i in.
-pub fn note_lanes(table: &mut [u16], w: usize, lanes: u64, i: u16)
-    requires { (192 * w + 192 ≤ length table.old)
-        × ((b : ℕ) → b < 64 → b ∈ lanes → get_or table.old (3 * (64 * w + b) + 2) 0 < 65535) }
+pub fn note_lanes(table: &mut [Entry], w: usize, lanes: u64, i: u16)
+    requires { (64 * w + 64 ≤ length table.old)
+        × ((b : ℕ) → b < 64 → b ∈ lanes → (entry_at table.old (64 * w + b)).sets < 65535) }
     ensures { Noted (InWord w lanes) i table.old table.new }
 {
     let mut rest = lanes;
     while rest > 0 {
-        let b = rest.first();
-        take_in(table, 64 * w + b, i);
-        rest = rest & (rest - 1);
+        table[64 * w + rest.first()].take_in(i);
+        rest &= rest - 1;
     }
 }
 
@@ -44,10 +48,10 @@ pub fn note_word(
     i: u16,
     needed: u16,
     active: &mut [u64],
-    table: &mut [u16],
+    table: &mut [Entry],
 )
-    requires { (w < length active.old) × (length active.old ≤ 1024) × (192 * length active.old ≤ length table.old)
-        × ((b : ℕ) → b < 64 → b ∈ get_or active.old w 0 → get_or table.old (3 * (64 * w + b) + 2) 0 < 65535) }
+    requires { (w < length active.old) × (length active.old ≤ 1024) × (64 * length active.old ≤ length table.old)
+        × ((b : ℕ) → b < 64 → b ∈ get_or active.old w 0 → (entry_at table.old (64 * w + b)).sets < 65535) }
     ensures { WordNoted w stable i needed active.old table.old active.new table.new }
 {
     let old = active[w];

@@ -1,11 +1,11 @@
 -- What a guess counts as, by the planes and by its entry. Assumes nothing.
-use Prim.Native.Nat.{ℕ, ◌+◌, ◌*◌, ◌^◌, ◌<◌}
+use Prim.Native.Nat.{ℕ, ◌*◌, ◌^◌, ◌<◌}
 use mathlib.Core.Path.{◌≡◌, refl, sym, ap, ◌∙◌}
 use mathlib.Core.Bool.{true, false, not}
 use mathlib.Core.List.{List}
 use mathlib.Core.Logic.{⊎_elim}
 use native.Mathlib.Omega.{arith}
-use lib.ListN.{length, get_or}
+use lib.ListN.{length}
 use Rattle.sets.specs.Decides.{is_true, is_false, decided, dec_eq, dec_not}
 use Rattle.sets.specs.Lists.{dec_some}
 use Rattle.sets.specs.Sets.{◌⊆◌, ◌⊆?◌, ⋂, ⋃}
@@ -23,7 +23,8 @@ use Rattle.guess.specs.Programs.{unmasked_in, setting_in, Outlines}
 use Rattle.guess.specs.Negations.{negations_by, found_by}
 use Rattle.guess.specs.Numbered.{negations_by_lem}
 use Rattle.lanes.specs.Planes.{◌in_plane◌}
-use Rattle.lanes.specs.Noted.{Entry}
+use Rattle.lanes.specs.declared.noted.Entry.{Entry}
+use Rattle.lanes.specs.Noted.{entry_at}
 use Rattle.verdicts.specs.Tables.{Tabled}
 use Rattle.records.specs.Outcomes.{ExaminedAs}
 
@@ -42,7 +43,7 @@ module _ (x : Outline) (g known possible sets : ℕ) where
   entry_other n d = rw (is_false (dec_eq sets 0) n, is_false (dec_eq (found_by x known possible) g) d) refl
 
 -- ---- by the planes
-module _ {x : Outline} {words free active table : List ℕ} (o : Outlines x words) (t : Tabled x words free active table) {g : ℕ} (h : g < 2 ^ x.negations) where
+module _ {x : Outline} {words free active : List ℕ} {table : List Entry} (o : Outlines x words) (t : Tabled x words free active table) {g : ℕ} (h : g < 2 ^ x.negations) where
   abbrev s : Setting
   s = setting_in x words
 
@@ -75,9 +76,9 @@ module _ {x : Outline} {words free active table : List ℕ} (o : Outlines x word
         (decided lacks))
 
     -- by its entry
-    pub examined_entry : g in_plane active → {a : Outcome} → a ≡ by_entry x g (get_or table (3 * g) 0) (get_or table (3 * g + 1) 0) (get_or table (3 * g + 2) 0) → ExaminedAs s g a
+    pub examined_entry : g in_plane active → {a : Outcome} → (let y = entry_at table g in a ≡ by_entry x g y.known y.possible y.sets) → ExaminedAs s g a
     examined_entry m e =
-        examined (e ∙ ap (λ (y : Entry). judged_as g (verdict_from (negations_by x) (having y.known y.possible y.number 0) g)) (t.filled.entries within m)
+        examined (e ∙ ap (λ (y : Entry). judged_as g (verdict_from (negations_by x) (having y.known y.possible y.sets 0) g)) (t.filled.entries within m)
         ∙ ap (λ ns. judged_as g (verdict_from ns (having (⋂ x.atoms w) (⋃ w) (length w) 0) g)) (negations_by_lem o) ∙ sym (judged_by_summary s g 0))
       where
         w : List ℕ

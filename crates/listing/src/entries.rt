@@ -9,24 +9,25 @@ ghost use Rattle.records.specs.Outcomes.{outcome_from, ExaminedAs};
 
 use guess::negations::found;
 use guess::outline::Outline;
+use lanes::noted::Entry;
 use lanes::plane::holds;
 use records::View;
 use records::outcome::Outcome;
 
 // By what is known and possible in its belief sets, and how many they are.
-fn by_entry(x: Outline, guess: u16, known: u16, possible: u16, sets: u16) -> Outcome
+fn by_entry(x: Outline, guess: u16, entry: Entry) -> Outcome
     requires { Few x }
-    ensures { outcome_from result ≡ judged_as guess (verdict_from (negations_by x) (having known possible sets 0) guess) }
+    ensures { outcome_from result ≡ judged_as guess (verdict_from (negations_by x) (having entry.known entry.possible entry.sets 0) guess) }
 {
-    if sets == 0 {
+    if entry.sets == 0 {
         return Outcome::Empty;
     }
-    if found(x, known, possible) == guess {
+    if found(x, entry.known, entry.possible) == guess {
         return Outcome::View(View {
             guess,
-            known,
-            possible,
-            sets,
+            known: entry.known,
+            possible: entry.possible,
+            sets: entry.sets,
         });
     }
     Outcome::Other
@@ -38,7 +39,7 @@ pub fn examine(
     x: Outline,
     free: &[u64],
     active: &[u64],
-    table: &[u16],
+    table: &[Entry],
     guess: u16,
 ) -> Outcome
     requires { Outlines x words.now × (guess < 2 ^ x.negations) × Tabled x words.now free.now active.now table.now }
@@ -51,6 +52,5 @@ pub fn examine(
     if !holds(active, g) {
         return Outcome::Other;
     }
-    let at = 3 * g;
-    by_entry(x, guess, table[at], table[at + 1], table[at + 2])
+    by_entry(x, guess, table[g])
 }

@@ -14,6 +14,7 @@ ghost use Rattle.listing.specs.Walks.{walked_in};
 use super::entries::examine;
 use answers::Tally;
 use guess::outline::Outline;
+use lanes::noted::Entry;
 use records::covered_by;
 use records::outcome::{Outcome, count, note};
 use sets::power;
@@ -26,7 +27,7 @@ fn pass(
     tally: Tally,
     free: &[u64],
     active: &[u64],
-    table: &[u16],
+    table: &[Entry],
     records: &mut [u16],
 ) -> Tally
     requires outlines { Outlines x words.now × (guess < 2 ^ x.negations) × Tabled x words.now free.now active.now table.now }
@@ -51,7 +52,7 @@ pub fn rest(
     tally: Tally,
     free: &[u64],
     active: &[u64],
-    table: &[u16],
+    table: &[Entry],
     records: &mut [u16],
 ) -> Tally
     requires outlines { Outlines x words.now × Tabled x words.now free.now active.now table.now × Enumerates x.negations (members_below x.negations order.now) }

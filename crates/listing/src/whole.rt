@@ -13,6 +13,7 @@ use super::paused::Paused;
 use super::rest::rest;
 use answers::Tally;
 use guess::outline::Outline;
+use lanes::noted::Entry;
 use sets::power;
 use verdicts::judge_all;
 
@@ -37,11 +38,11 @@ fn finish_in(
     free: &mut [u64],
     stable: &mut [u64],
     active: &mut [u64],
-    table: &mut [u16],
+    table: &mut [Entry],
     records: &mut [u16],
 ) -> Tally
     requires outlines { Outlines x words.now × Enumerates x.negations (members_below x.negations order.now) }
-    requires free_len_bound { (length free.old ≤ 64) × (length stable.old ≡ length free.old) × (length active.old ≡ length free.old) × (2 ^ x.negations ≤ 64 * length free.old) × (192 * length free.old ≤ length table.old) }
+    requires free_len_bound { (length free.old ≤ 64) × (length stable.old ≡ length free.old) × (length active.old ≡ length free.old) × (2 ^ x.negations ≤ 64 * length free.old) × (64 * length free.old ≤ length table.old) }
     requires records_room_in_bounds { (4 * records_room ≤ length records.old) × (at ≤ length order.now) × (walked_in tally records.old ≡ walk (setting_in x words.now) (members_below x.negations (take at order.now))) }
     ensures records_len_unchanged { length records.new ≡ length records.old }
     ensures records_after { walked_in result records.new ≡ walk (setting_in x words.now) (members_below x.negations (take (length order.now) order.now)) }
@@ -85,7 +86,7 @@ fn finish(
     let mut free = [0u64; 64];
     let mut stable = [0u64; 64];
     let mut active = [0u64; 64];
-    let mut table = [0u16; 12288];
+    let mut table = [Entry::default(); 4096];
     finish_in(
         words,
         x,

@@ -4,13 +4,14 @@ use Rattle.std.proofs.Common.{sym, ap, ◌∙◌, subst, inl, inr, ⊎_elim, ari
 use Rattle.sets.specs.Decides.{decided, dec_eq}
 use Rattle.sets.specs.Sets.{◌∈◌, ◌⊆◌}
 use Rattle.lanes.specs.Planes.{◌in_plane◌, Word}
-use Rattle.lanes.specs.Noted.{Entry, Noted, noted_iff, noted-none, noted_join}
+use Rattle.lanes.specs.declared.noted.Entry.{Entry}
+use Rattle.lanes.specs.Noted.{entry_at, Noted, noted_iff, noted-none, noted_join}
 use Rattle.lanes.specs.Step.{WordNoted}
 use Rattle.search.specs.Tried.{Tried}
 
 -- for the words before w
 module _ (S : ℕ → Type 0) (i needed : ℕ) where
-  pub record NotedUntil (w : ℕ) (active table active' table' : List ℕ) : Type 0 where
+  pub record NotedUntil (w : ℕ) (active : List ℕ) (table : List Entry) (active' : List ℕ) (table' : List Entry) : Type 0 where
     pub long : length active' ≡ length active
     pub others : {v : ℕ} → w ≤ v → get_or active' v 0 ≡ get_or active v 0
     pub left : {g : ℕ} → g / 64 < w → g in_plane active' ↔ ((g in_plane active) × (S g → needed ⊆ g))
@@ -26,7 +27,7 @@ of_word P {x} g w e q =
     let n : 64 * w + g % 64 ≡ g = omega arith in
     subst (λ z. g % 64 ∈ x ↔ P z) n (q.lane {b = g % 64} (omega arith))
 
-module _ (S : ℕ → Type 0) (i needed : ℕ) (active table : List ℕ) where
+module _ (S : ℕ → Type 0) (i needed : ℕ) (active : List ℕ) (table : List Entry) where
   pub until_first : NotedUntil S i needed 0 active table active table
   until_first = record {
     long = refl;
@@ -35,16 +36,16 @@ module _ (S : ℕ → Type 0) (i needed : ℕ) (active table : List ℕ) where
     entries = noted-none i (λ g p. not-suc-le-zero p.0);
   }
 
-  pub until_last : {w : ℕ} {a t : List ℕ} → w ≡ length active → NotedUntil S i needed w active table a t → Tried S i needed active table a t
+  pub until_last : {w : ℕ} {a : List ℕ} {t : List Entry} → w ≡ length active → NotedUntil S i needed w active table a t → Tried S i needed active table a t
   until_last e u = record {
     long = u.long;
     left = λ {g} k. u.left (omega arith);
     entries = noted_iff (λ g. (λ p. (omega (arith, p.0), p.1, p.2, p.3), λ p. (omega (arith, p.0), p.1, p.2, p.3))) u.entries;
   }
 
-  pub until_next : {w stable : ℕ} {a t b s : List ℕ} → Word S w stable → NotedUntil S i needed w active table a t → WordNoted w stable i needed a t b s
+  pub until_next : {w stable : ℕ} {a b : List ℕ} {t s : List Entry} → Word S w stable → NotedUntil S i needed w active table a t → WordNoted w stable i needed a t b s
       → NotedUntil S i needed (w + 1) active table b s
-  until_next {w} {stable} {a} {t} {b} {s} x u n = record {
+  until_next {w} {stable} {a} {b} {t} {s} x u n = record {
     long = n.long ∙ u.long;
     others = λ {v} k. n.others (λ e. omega arith) ∙ u.others (omega arith);
     left = λ {g} k.
@@ -70,10 +71,10 @@ module _ (S : ℕ → Type 0) (i needed : ℕ) (active table : List ℕ) where
           )
 
   -- the counts of the words to come still have room
-  pub until_room : {w : ℕ} {a t : List ℕ} → NotedUntil S i needed w active table a t → ((g : ℕ) → g in_plane active → get_or table (3 * g + 2) 0 < 65535)
-      → (b : ℕ) → b < 64 → b ∈ get_or a w 0 → get_or t (3 * (64 * w + b) + 2) 0 < 65535
+  pub until_room : {w : ℕ} {a : List ℕ} {t : List Entry} → NotedUntil S i needed w active table a t → ((g : ℕ) → g in_plane active → (entry_at table g).sets < 65535)
+      → (b : ℕ) → b < 64 → b ∈ get_or a w 0 → (entry_at t (64 * w + b)).sets < 65535
   until_room {w} {a} {t} u f b l m =
       let q : (64 * w + b) / 64 ≡ w = omega arith in
       let r : (64 * w + b) % 64 ≡ b = omega arith in
-      let e = ap (λ (x : Entry). x.number) (u.entries.kept {g = 64 * w + b} (λ p. absurd (omega (arith, p.0)))) in
+      let e = ap (λ (x : Entry). x.sets) (u.entries.kept {g = 64 * w + b} (λ p. absurd (omega (arith, p.0)))) in
       omega (arith, e, f (64 * w + b) (record { held = rw (q, r) (subst (λ z. b ∈ z) (u.others (omega arith)) m) }))

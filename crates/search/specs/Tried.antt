@@ -2,16 +2,17 @@
 use Rattle.std.specs.Prelude.{ℕ, ◌*◌, ◌<◌, ◌≡◌, refl, List, ◌↔◌, length}
 use Rattle.sets.specs.Sets.{◌⊆◌}
 use Rattle.lanes.specs.Planes.{◌in_plane◌}
+use Rattle.lanes.specs.declared.noted.Entry.{Entry}
 use Rattle.lanes.specs.Noted.{Noted, noted_iff, noted-none}
 
 -- of the active numbers for which the set i is stable, those that lack something it needs leave, and the others take it in
-pub record Tried (S : ℕ → Type 0) (i needed : ℕ) (active table active' table' : List ℕ) : Type 0 where
+pub record Tried (S : ℕ → Type 0) (i needed : ℕ) (active : List ℕ) (table : List Entry) (active' : List ℕ) (table' : List Entry) : Type 0 where
   pub long : length active' ≡ length active
   pub left : {g : ℕ} → g < 64 * length active → g in_plane active' ↔ ((g in_plane active) × (S g → needed ⊆ g))
   pub entries : Noted (λ g. (g < 64 * length active) × (g in_plane active) × S g × (needed ⊆ g)) i table table'
 
 -- by T, where it says the same as S of the active numbers
-pub tried_iff : {S T : ℕ → Type 0} {i needed : ℕ} {active table active' table' : List ℕ} → ((g : ℕ) → g < 64 * length active → g in_plane active → S g ↔ T g)
+pub tried_iff : {S T : ℕ → Type 0} {i needed : ℕ} {active active' : List ℕ} {table table' : List Entry} → ((g : ℕ) → g < 64 * length active → g in_plane active → S g ↔ T g)
     → Tried S i needed active table active' table' → Tried T i needed active table active' table'
 tried_iff f t = record {
   long = t.long;
@@ -23,7 +24,7 @@ tried_iff f t = record {
 }
 
 -- where it is stable for none, all stays
-pub tried_none : {S : ℕ → Type 0} (i needed : ℕ) (active table : List ℕ) → ((g : ℕ) → S g → ⊥) → Tried S i needed active table active table
+pub tried_none : {S : ℕ → Type 0} (i needed : ℕ) (active : List ℕ) (table : List Entry) → ((g : ℕ) → S g → ⊥) → Tried S i needed active table active table
 tried_none i needed active table f = record {
   long = refl;
   left = λ {g} h. (λ a. (a, λ y. absurd (f g y)), λ p. p.0);

@@ -8,12 +8,14 @@ pub mod smaller;
 pub mod stable;
 pub mod supported;
 
-ghost use Rattle.std.specs.Prelude.{◌≡◌, ℕ, ◌+◌, ◌*◌, ◌≤◌, ◌<◌, length, get_or};
+ghost use Rattle.std.specs.Prelude.{◌≡◌, ℕ, ◌+◌, ◌*◌, ◌≤◌, ◌<◌, length};
+ghost use Rattle.lanes.specs.Noted.{entry_at};
 ghost use Rattle.lanes.specs.Planes.{◌in_plane◌};
 ghost use Rattle.lanes.specs.Stable.{StableFor};
 ghost use Rattle.search.specs.Tried.{Tried};
 
 use lanes::cube::Patterns;
+use lanes::noted::Entry;
 use noted::note_words;
 use shared::{relevant, share};
 use stable::find_stable;
@@ -29,11 +31,11 @@ pub fn note_rules(
     on: &mut [u64],
     stable: &mut [u64],
     active: &mut [u64],
-    table: &mut [u16],
+    table: &mut [Entry],
 )
     requires { (4 * n ≤ length rules.now) × (n ≤ length on.old) × (length stable.old ≡ length active.old)
-        × (length active.old ≤ 1024) × (192 * length active.old ≤ length table.old)
-        × ((g : ℕ) → g in_plane active.old → get_or table.old (3 * g + 2) 0 < 65535) }
+        × (length active.old ≤ 1024) × (64 * length active.old ≤ length table.old)
+        × ((g : ℕ) → g in_plane active.old → (entry_at table.old g).sets < 65535) }
     ensures on_len_unchanged { length on.new ≡ length on.old }
     ensures stable_len_unchanged { length stable.new ≡ length stable.old }
     ensures tried { Tried (StableFor rules.now n i) i needed active.old table.old active.new table.new }

@@ -1,11 +1,12 @@
 // A set of atoms is taken into the entries of all numbers for which it is stable, where one number is served by another.
-ghost use Rattle.std.specs.Prelude.{◌≡◌, ℕ, ◌+◌, ◌*◌, ◌≤◌, ◌<◌, length, get_or};
+ghost use Rattle.std.specs.Prelude.{◌≡◌, ℕ, ◌+◌, ◌*◌, ◌≤◌, ◌<◌, length};
+ghost use Rattle.lanes.specs.Noted.{entry_at};
 ghost use Rattle.lanes.specs.Planes.{◌in_plane◌};
 ghost use Rattle.search.specs.Shared.{server};
 ghost use Rattle.search.specs.Tried.{Tried};
 
 use lanes::cube::Patterns;
-use lanes::noted::note_word;
+use lanes::noted::{Entry, note_word};
 
 // i is stable for the numbers that are served by those of a plane: the active ones of them that lack something it needs leave, and the others
 // take it in.
@@ -16,10 +17,10 @@ pub fn note_words(
     i: u16,
     needed: u16,
     active: &mut [u64],
-    table: &mut [u16],
+    table: &mut [Entry],
 )
     requires { (length stable.now ≡ length active.old) × (length active.old ≤ 1024)
-        × (192 * length active.old ≤ length table.old) × ((g : ℕ) → g in_plane active.old → get_or table.old (3 * g + 2) 0 < 65535) }
+        × (64 * length active.old ≤ length table.old) × ((g : ℕ) → g in_plane active.old → (entry_at table.old g).sets < 65535) }
     ensures { Tried (λ g. server parting g in_plane stable.now) i needed active.old table.old active.new table.new }
 {
     for w in 0..active.len() {

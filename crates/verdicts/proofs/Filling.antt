@@ -7,7 +7,7 @@ use mathlib.Core.Logic.{⊎_elim}
 use native.Mathlib.Omega.{arith}
 use native.Mathlib.Numerals.{add-one}
 use native.Mathlib.Nat.{lt_of_not-le}
-use lib.ListN.{length, get_or, get_or-eq_default}
+use lib.ListN.{length, get_or-eq_default}
 use Rattle.sets.specs.Decides.{decided, dec_le}
 use Rattle.sets.specs.Lists.{keep, keep_snoc, up_to, length-up_to, nowhere}
 use Rattle.sets.specs.Counting.{keep_shorter}
@@ -25,7 +25,8 @@ use Rattle.guess.specs.declared.outline.Outline.{Outline}
 use Rattle.guess.specs.Programs.{unmasked_in, setting_in, Outlines}
 use Rattle.guess.specs.Numbered.{masks_below}
 use Rattle.lanes.specs.Planes.{◌in_plane◌, Plane}
-use Rattle.lanes.specs.Noted.{Entry, entry_at}
+use Rattle.lanes.specs.declared.noted.Entry.{Entry}
+use Rattle.lanes.specs.Noted.{entry_at}
 use Rattle.search.specs.Tried.{Tried}
 use Rattle.lanes.specs.Summary.{Stands, stands_more}
 use Rattle.gather.specs.Gathers.{at_set}
@@ -51,13 +52,13 @@ module _ (x : Outline) (words first : List ℕ) where
   stable_below g i = keep (stable (s.program g)) (up_to i)
 
   -- after the sets below i
-  pub record After (i : ℕ) (active table : List ℕ) : Type 0 where
+  pub record After (i : ℕ) (active : List ℕ) (table : List Entry) : Type 0 where
     pub long : length active ≡ length first
     pub within : {g : ℕ} → g < 64 * length first → g in_plane active → g in_plane first
     pub stands : {g : ℕ} → g < 64 * length first → g in_plane first → Stands x.atoms (need (unmasked_in x words)) g (stable_below g i) (g in_plane active) (entry_at table g)
 
   -- before any set
-  pub after_none : {table : List ℕ} → Blank (64 * length first) x.atoms table → After 0 first table
+  pub after_none : {table : List Entry} → Blank (64 * length first) x.atoms table → After 0 first table
   unfolding keep up_to
   after_none blank = record {
     long = refl;
@@ -65,12 +66,12 @@ module _ (x : Outline) (words first : List ℕ) where
     stands = λ {g} h m. record { active = (λ _ i k. absurd (nowhere k), λ _. m); entry = λ _. blank g h };
   }
 
-  module _ {i : ℕ} {active table : List ℕ} (a : After i active table) where
+  module _ {i : ℕ} {active : List ℕ} {table : List Entry} (a : After i active table) where
     -- there is room for one set more
-    pub room_left : i < 2 ^ most_atoms → (g : ℕ) → g in_plane active → get_or table (3 * g + 2) 0 < 65535
+    pub room_left : i < 2 ^ most_atoms → (g : ℕ) → g in_plane active → (entry_at table g).sets < 65535
     room_left h g m =
         let l : g < 64 * length first = omega (arith, a.long, below_plane m) in
-        let e = ap (λ (y : Entry). y.number) ((a.stands l (a.within l m)).entry m) in
+        let e = ap (λ (y : Entry). y.sets) ((a.stands l (a.within l m)).entry m) in
         omega (arith, e, keep_shorter (stable (s.program g)) (up_to i), length-up_to i)
 
     more : (g : ℕ) → stable_below g (i + 1) ≡ keep (stable (s.program g)) (up_to i ++ i ∷ [])
@@ -82,7 +83,7 @@ module _ (x : Outline) (words first : List ℕ) where
       same = omega arith
 
       -- a candidate, which is tried, and another set
-      pub set_tried : {active' table' : List ℕ} → (i % 64 ∈? sets) ≡ true
+      pub set_tried : {active' : List ℕ} {table' : List Entry} → (i % 64 ∈? sets) ≡ true
           → Tried (StableBy (at_set x words i) i) i (need (unmasked_in x words) i) active table active' table' → After (i + 1) active' table'
       set_tried {active'} {table'} there t = record {
         long = t.long ∙ a.long;
@@ -116,8 +117,8 @@ module _ (x : Outline) (words first : List ℕ) where
     }
 
 -- ---- with the plane of the guesses that are not contradicted
-pub tabled : {x : Outline} {words free first active table : List ℕ} → 2 ^ x.negations ≤ 64 * length free → length first ≡ length free → length active ≡ length first
-    → 192 * length free ≤ length table → Plane (Free x words) free → Plane (Free x words) first → Filled x words first active table → Tabled x words free active table
+pub tabled : {x : Outline} {words free first active : List ℕ} {table : List Entry} → 2 ^ x.negations ≤ 64 * length free → length first ≡ length free → length active ≡ length first
+    → 64 * length free ≤ length table → Plane (Free x words) free → Plane (Free x words) first → Filled x words first active table → Tabled x words free active table
 tabled {first = first} wide same long stand all begun filled = record {
   wide = wide;
   long = long ∙ same;

@@ -1,4 +1,3 @@
--- What the proofs cite: the entries before any set, the rules at a set in words, and the table set after set.
-pub mod Cleared
+-- What the proofs cite: the rules at a set in words, and the table set after set.
 pub mod Sets
 pub mod Filling

@@ -1,2 +1,2 @@
--- The verdicts on all guesses, as the code has them: planes, and a table of three words a guess.
+-- The verdicts on all guesses, as the code has them: planes, and a table with an entry for each guess.
 pub mod Tables

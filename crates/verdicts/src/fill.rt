@@ -1,8 +1,9 @@
-// The table: three words a guess, for the guesses of a plane. Each set of atoms that some guess may make stable is tried once, for all of them.
-ghost use Rattle.std.specs.Prelude.{◌≡◌, ℕ, ◌+◌, ◌*◌, ◌^◌, ◌<◌, ◌≤◌, length, get_or};
+// The table: an entry for each guess of a plane. Each set of atoms that some guess may make stable is tried once, for all of them.
+ghost use Rattle.std.specs.Prelude.{◌≡◌, ℕ, ◌+◌, ◌*◌, ◌^◌, ◌<◌, ◌≤◌, length};
 ghost use Rattle.semantics.specs.Definitions.Sheet.{most_atoms};
 ghost use Rattle.semantics.specs.AtSet.{need, StableBy};
 ghost use Rattle.guess.specs.Programs.{unmasked_in, Outlines};
+ghost use Rattle.lanes.specs.Noted.{entry_at};
 ghost use Rattle.lanes.specs.Planes.{◌in_plane◌};
 ghost use Rattle.search.specs.Tried.{Tried};
 ghost use Rattle.gather.specs.Digests.{Digested};
@@ -15,22 +16,21 @@ use gather::gather;
 use guess::negations::found;
 use guess::outline::Outline;
 use lanes::cube::Patterns;
+use lanes::noted::Entry;
 use search::note_rules;
 use sets::{Set, full, power};
 
 // The entries of the first guesses before any set: every atom known, none possible, no set.
-fn clear(table: &mut [u16], guesses: usize, atoms: usize)
-    requires { (3 * guesses ≤ length table.old) × (atoms ≤ most_atoms) }
+fn clear(table: &mut [Entry], guesses: usize, atoms: usize)
+    requires { (guesses ≤ length table.old) × (atoms ≤ most_atoms) }
     ensures table_len_unchanged { length table.new ≡ length table.old }
     ensures blank { Blank guesses atoms table.new }
 {
-    let all = full(atoms as u16);
-    for g in 0..guesses {
-        let at = 3 * g;
-        table[at] = all;
-        table[at + 1] = 0;
-        table[at + 2] = 0;
-    }
+    table[..guesses].fill(Entry {
+        known: full(atoms as u16),
+        possible: 0,
+        sets: 0,
+    });
 }
 
 // One set more: the active guesses for which it is stable, the day's masks aside, take it in, or leave where they lack something it needs. `room`, `on`
@@ -45,11 +45,11 @@ fn note_set(
     on: &mut [u64],
     stable: &mut [u64],
     active: &mut [u64],
-    table: &mut [u16],
+    table: &mut [Entry],
 )
     requires table { Outlines x words.now × Digested x words.now digests.now × (i < 2 ^ x.atoms) }
     requires rules_in_bounds { (4 * x.rules ≤ length room.old) × (x.rules ≤ length on.old) × (length stable.old ≡ length active.old) × (length active.old ≤ 1024) }
-    requires active_in_bounds { (192 * length active.old ≤ length table.old) × ((g : ℕ) → g in_plane active.old → get_or table.old (3 * g + 2) 0 < 65535) }
+    requires active_in_bounds { (64 * length active.old ≤ length table.old) × ((g : ℕ) → g in_plane active.old → (entry_at table.old g).sets < 65535) }
     ensures room_len_unchanged { (length room.new ≡ length room.old) × (length on.new ≡ length on.old) × (length stable.new ≡ length stable.old) }
     ensures tried { Tried (StableBy (at_set x words.now i) i) i (need (unmasked_in x words.now) i) active.old table.old active.new table.new }
 {
@@ -61,8 +61,8 @@ fn note_set(
 }
 
 // All candidates, for the guesses of the plane `active`: no guess makes another set stable. `stable` is room to work in.
-pub fn fill(words: &[u16], x: Outline, stable: &mut [u64], active: &mut [u64], table: &mut [u16])
-    requires { Outlines x words.now × (length active.old ≤ 64) × (length stable.old ≡ length active.old) × (192 * length active.old ≤ length table.old) }
+pub fn fill(words: &[u16], x: Outline, stable: &mut [u64], active: &mut [u64], table: &mut [Entry])
+    requires { Outlines x words.now × (length active.old ≤ 64) × (length stable.old ≡ length active.old) × (64 * length active.old ≤ length table.old) }
     ensures stable_len_unchanged { length stable.new ≡ length stable.old }
     ensures active_len_unchanged { (length active.new ≡ length active.old) × (length table.new ≡ length table.old) }
     ensures filled { Filled x words.now active.old active.new table.new }

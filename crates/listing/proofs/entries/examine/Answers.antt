@@ -21,14 +21,8 @@ returns-then-not-holds-2 c =
     let (o, h, t) = c.requires in
     examined_other o t h (c.holds.ensures.yes (not-false _ c.if-not-holds.false-raw)) (c.holds-2.ensures.no (not-true _ c.if-not-holds-2.true-raw))
 
-pub bounds-table-at : goal.bounds-table-at
-bounds-table-at c = let (o, h, t) = c.requires in omega (arith, h, t.wide, t.stand)
-
-pub bounds-table-at-2 : goal.bounds-table-at-2
-bounds-table-at-2 c = let (o, h, t) = c.requires in omega (arith, h, t.wide, t.stand)
-
-pub bounds-table-at-3 : goal.bounds-table-at-3
-bounds-table-at-3 c = let (o, h, t) = c.requires in omega (arith, h, t.wide, t.stand)
+pub bounds-table-g : goal.bounds-table-g
+bounds-table-g c = let (o, h, t) = c.requires in omega (arith, h, t.wide, t.stand)
 
 pub by_entry-requires : goal.by_entry-requires
 by_entry-requires c = few_of c.requires.0
