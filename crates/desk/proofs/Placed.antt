@@ -1,73 +1,50 @@
 -- Words at the front of a buffer, and words as bytes there. Assumes nothing.
-use Prim.Native.Nat.{ℕ, zero, suc, ◌+◌, ◌*◌, ◌-◌, ◌/◌, ◌%◌, ◌≤◌, ◌<◌}
+use Prim.Native.Nat.{ℕ, ◌+◌, ◌*◌, ◌-◌, ◌/◌, ◌%◌, ◌<◌}
 use mathlib.Core.Path.{◌≡◌, refl, sym, ap, ap₂, ◌∙◌}
 use mathlib.Core.List.{List, [], ◌∷◌, ◌++◌, append_assoc}
-use native.Mathlib.Nat.{le_of_suc-le-suc, not-suc-le-zero}
 use native.Mathlib.Numerals.{add-one}
 use native.Mathlib.Omega.{arith}
-use lib.ListN.{length, get_or, set, take, drop, length-append}
-use lib.Seq.{take_at, drop_at, drop-drop}
+use lib.ListN.{length, get_or, take, drop, length-append}
+use lib.Seq.{length-take-le, take-suc, take_at, drop_at, drop-drop}
 use Rattle.sets.specs.Lists.{flat}
 use Rattle.semantics.specs.Definitions.Returned.{written}
-use Rattle.semantics.specs.Definitions.Listing.{six, tallied}
 use Rattle.semantics.specs.Definitions.Desk.{bytes_of}
+use Rattle.semantics.proofs.Theorems.Desk.{bytes_long}
 use Rattle.records.proofs.Placed.{part, part-written}
 
--- ---- six words
-pub six_set : (words : List ℕ) (a b c d e f : ℕ) → 6 ≤ length words
-    → set (set (set (set (set (set words 0 a) 1 b) 2 c) 3 d) 4 e) 5 f ≡ written (six (tallied a b c d e f)) words
-six_set [] a b c d e f h = absurd (not-suc-le-zero h)
-six_set (p ∷ []) a b c d e f h = absurd (omega arith)
-six_set (p ∷ q ∷ []) a b c d e f h = absurd (omega arith)
-six_set (p ∷ q ∷ r ∷ []) a b c d e f h = absurd (omega arith)
-six_set (p ∷ q ∷ r ∷ s ∷ []) a b c d e f h = absurd (omega arith)
-six_set (p ∷ q ∷ r ∷ s ∷ t ∷ []) a b c d e f h = absurd (omega arith)
-six_set (p ∷ q ∷ r ∷ s ∷ t ∷ u ∷ words) a b c d e f h = refl
-
 -- ---- words as bytes
-unfoldable twice : ℕ → ℕ
-twice zero = zero
-twice (suc i) = suc (suc (twice i))
-
-twice_is : (i : ℕ) → twice i ≡ 2 * i
-unfolding twice
-twice_is zero = refl
-twice_is (suc i) = omega (arith, twice_is i)
-
--- the buffer with the bytes of the first i words at its front
-abbrev pub holds : (words out : List ℕ) → ℕ → List ℕ
-holds words out i = bytes_of (take i words) ++ drop (2 * i) out
-
--- and of one word more
-pair : (words out : List ℕ) (i : ℕ) → i < length words → suc (twice i) < length out
-    → set (set (bytes_of (take i words) ++ drop (twice i) out) (twice i) (get_or words i 0 % 256)) (suc (twice i)) (get_or words i 0 / 256)
-    ≡ bytes_of (take (suc i) words) ++ drop (twice (suc i)) out
-unfolding twice flat
-pair [] out i h l = absurd (not-suc-le-zero h)
-pair (w ∷ words) [] i h l = absurd (not-suc-le-zero l)
-pair (w ∷ words) (x ∷ []) i h l = absurd (omega arith)
-pair (w ∷ words) (x ∷ y ∷ out) zero h l = refl
-pair (w ∷ words) (x ∷ y ∷ out) (suc i) h l =
-    ap (λ m. w % 256 ∷ w / 256 ∷ m) (pair words out i (le_of_suc-le-suc h) (le_of_suc-le-suc (le_of_suc-le-suc l)))
-
-pub one_more : (words out : List ℕ) (i : ℕ) → i < length words → 2 * i + 1 < length out
-    → set (set (holds words out i) (2 * i) (get_or words i 0 % 256)) (2 * i + 1) (get_or words i 0 / 256) ≡ holds words out (i + 1)
-one_more words out i h l =
-    let e = twice_is i in
-    let second : 2 * i + 1 ≡ suc (twice i) = omega arith in
-    let next : twice (suc i) ≡ 2 * suc i = twice_is (suc i) in
-    ap (λ m. set (set (bytes_of (take i words) ++ drop m out) m (get_or words i 0 % 256)) (2 * i + 1) (get_or words i 0 / 256)) (sym e)
-    ∙ ap (λ m. set (set (bytes_of (take i words) ++ drop (twice i) out) (twice i) (get_or words i 0 % 256)) m (get_or words i 0 / 256)) second
-    ∙ pair words out i h (omega arith)
-    ∙ ap (λ m. bytes_of (take (suc i) words) ++ drop m out) next
-    ∙ ap (holds words out) (sym (add-one i))
-
--- ---- six words as bytes, and then others, into a part of the buffer
 bytes-append : (a b : List ℕ) → bytes_of (a ++ b) ≡ bytes_of a ++ bytes_of b
 unfolding flat
 bytes-append [] b = refl
 bytes-append (w ∷ a) b = ap (λ l. w % 256 ∷ w / 256 ∷ l) (bytes-append a b)
 
+-- the buffer with the bytes of the first i words at its front
+abbrev pub holds : (words out : List ℕ) → ℕ → List ℕ
+holds words out i = bytes_of (take i words) ++ drop (2 * i) out
+
+pub none_held : (words out : List ℕ) → out ≡ holds words out 0
+unfolding flat
+none_held words out = refl
+
+-- and of one word more
+pub one_more : (words out : List ℕ) {now : List ℕ} (i : ℕ) → i < length words → now ≡ holds words out i
+    → take (2 * i) now ++ ((get_or words i 0 % 256 ∷ get_or words i 0 / 256 ∷ []) ++ drop 2 (drop (2 * i) now)) ≡ holds words out (i + 1)
+unfolding flat
+one_more words out {now} i h e =
+    let w = get_or words i 0 in
+    let front = bytes_of (take i words) in
+    let rest = drop (2 * i) out in
+    let long : length front ≡ 2 * i = bytes_long (take i words) ∙ ap (λ n. 2 * n) (length-take-le i words (omega arith)) in
+    let first : take (2 * i) now ≡ front = ap (take (2 * i)) e ∙ take_at front rest (2 * i) long in
+    let behind : drop (2 * i) now ≡ rest = ap (drop (2 * i)) e ∙ drop_at front rest (2 * i) long in
+    let next : 2 * i + 2 ≡ 2 * (i + 1) = omega arith in
+    let more : take (i + 1) words ≡ take i words ++ w ∷ [] = rw add-one (take-suc words i 0 h) in
+    ap₂ (λ x y. x ++ (w % 256 ∷ w / 256 ∷ drop 2 y)) first behind
+    ∙ ap (λ y. front ++ (w % 256 ∷ w / 256 ∷ y)) (drop-drop 2 (2 * i) out ∙ ap (λ n. drop n out) next)
+    ∙ sym (append_assoc front (w % 256 ∷ w / 256 ∷ []) (drop (2 * (i + 1)) out))
+    ∙ ap (λ l. l ++ drop (2 * (i + 1)) out) (sym (bytes-append (take i words) (w ∷ [])) ∙ ap bytes_of (sym more))
+
+-- ---- six words as bytes, and then others, into a part of the buffer
 -- the part from a place on lent, and given back
 pub both : (out cs ws : List ℕ) (at : ℕ) {once after : List ℕ} → length (bytes_of cs) ≡ at → once ≡ written (bytes_of cs) out
     → after ≡ written (bytes_of ws) (part at once)

@@ -10,6 +10,7 @@ ghost use Rattle.semantics.specs.Definitions.Desk.{desk_call, desk_number, desk_
 ghost use Rattle.desk.specs.Demand3.{DeskDemand};
 ghost use Rattle.desk.specs.Days.{DeskDay};
 
+use answers::Tally;
 use engine::{Listed, list};
 use words::write_listing;
 
@@ -24,7 +25,7 @@ pub extern "C" fn budkarv_list(sheet: &[u8], ins: u16, outs: u16, bytes: &mut [u
 {
     // four words for each of at most 4,096 views
     let mut records = [0u16; 16384];
-    match list(sheet, ins, outs, &mut records[..]) {
+    match list(sheet, ins, outs, &mut records) {
         Listed::Accepted {
             views,
             covered,
@@ -36,16 +37,15 @@ pub extern "C" fn budkarv_list(sheet: &[u8], ins: u16, outs: u16, bytes: &mut [u
             if bytes.len() / 2 < 6 + 4 * views {
                 return 9 * 65536 + views as u32;
             }
-            write_listing(
+            let tally = Tally {
                 views,
                 covered,
                 ruled,
                 tested,
                 empty,
                 other,
-                &records[..],
-                &mut bytes[..],
-            );
+            };
+            write_listing(tally, &records, bytes);
             0
         }
         Listed::Refused { number, place } => number as u32 * 65536 + place as u32,
