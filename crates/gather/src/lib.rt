@@ -25,35 +25,39 @@ pub struct AtSet {
     pub holds: u16,
 }
 
-// Can a guess switch the rule on at the set i, which needs these negations? No guess switches another one on.
-fn switches(r: Digest, i: u16, needed: u16) -> bool
-    ensures { result ≡ (r.body ⊆? i) && not (r.nots meets? i) && not (r.barred meets? needed) }
-{
-    let body = has_and_lacks(i, r.body, r.nots);
-    let barred = meets(r.barred, needed);
-    body & !barred
-}
+impl Digest {
+    // Can a guess switch the rule on at the set i, which needs these negations? No guess switches another one on.
+    fn switches(self, i: u16, needed: u16) -> bool
+        ensures { result ≡ (self.body ⊆? i) && not (self.nots meets? i) && not (self.barred meets? needed) }
+    {
+        let body = has_and_lacks(i, self.body, self.nots);
+        let barred = meets(self.barred, needed);
+        body & !barred
+    }
 
-// Such a rule, at the set.
-fn at_set(r: Digest, i: u16, needed: u16) -> AtSet
-    ensures { result ≡ record { head = r.head ∩ i; plain = r.plain; misses = r.barred; holds = r.asked ∖ needed } }
-{
-    AtSet {
-        head: r.head & i,
-        plain: r.plain,
-        misses: r.barred,
-        holds: r.asked.minus(needed),
+    // Such a rule, at the set.
+    fn at_set(self, i: u16, needed: u16) -> AtSet
+        ensures { result ≡ record { head = self.head ∩ i; plain = self.plain; misses = self.barred; holds = self.asked ∖ needed } }
+    {
+        AtSet {
+            head: self.head & i,
+            plain: self.plain,
+            misses: self.barred,
+            holds: self.asked.minus(needed),
+        }
     }
 }
 
-// A set that has the atom it supports, where it does: its only head atom in the set, not among its plain atoms.
-fn supported(e: AtSet) -> u16
-    ensures { (a : ℕ) → Supports (rule_from e) a → a ∈ result }
-{
-    if size(e.head) == 1 {
-        return e.head.minus(e.plain);
+impl AtSet {
+    // A set that has the atom it supports, where it does: its only head atom in the set, not among its plain atoms.
+    fn supported(self) -> u16
+        ensures { (a : ℕ) → Supports (rule_from self) a → a ∈ result }
+    {
+        if size(self.head) == 1 {
+            return self.head.minus(self.plain);
+        }
+        0
     }
-    0
 }
 
 // Writes it as rule n, four words a rule.
@@ -87,12 +91,12 @@ pub fn gather(
     let mut atoms = 0;
     let mut n = 0;
     for &r in digests {
-        if switches(r, i, needed) {
-            let e = at_set(r, i, needed);
+        if r.switches(i, needed) {
+            let e = r.at_set(i, needed);
             if e.head | e.misses | e.holds == 0 {
                 return None;
             }
-            atoms |= supported(e);
+            atoms |= e.supported();
             put(e, n, &mut room[..]);
             n += 1;
         }

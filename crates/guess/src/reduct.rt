@@ -16,22 +16,15 @@ fn act(i: usize, mask: u16, by: Assumptions) -> Option<(usize, u16)>
     ensures value { result ≡ acted_on by.unknown by.maybe i mask }
     ensures one_of_four { IfSome result (λ joined. joined.0 < 4) }
 {
+    // by number, as document 01 numbers the masks of a sheet
     match i {
         0..=3 => Some((i, mask)),
-        4 => {
-            if meets(mask, by.unknown) {
-                return None;
-            }
-            Some((1, mask))
-        }
+        4 if meets(mask, by.unknown) => None,
+        4 => Some((1, mask)),
         5 => Some((2, mask.minus(by.unknown))),
         6 => Some((3, mask.minus(by.maybe))),
-        _ => {
-            if meets(mask, by.maybe) {
-                return None;
-            }
-            Some((2, mask))
-        }
+        _ if meets(mask, by.maybe) => None,
+        _ => Some((2, mask)),
     }
 }
 

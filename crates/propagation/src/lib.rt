@@ -26,30 +26,6 @@ pub struct Pair {
     pub f: u16,
 }
 
-// Is rule j sure?
-fn sure(program: &[u16], j: usize, pair: Pair) -> bool
-    requires { 4 * j + 4 ≤ length program.now }
-    ensures { result ≡ sureIn (pair_from pair) (rule_in program.now j) }
-{
-    let at = 4 * j;
-    let plain = subset(program[at + 1], pair.t);
-    let nots = subset(program[at + 2], pair.f);
-    let not_nots = subset(program[at + 3], pair.t);
-    plain & not_nots & nots
-}
-
-// Is rule j dead?
-fn dead(program: &[u16], j: usize, pair: Pair) -> bool
-    requires { 4 * j + 4 ≤ length program.now }
-    ensures { result ≡ deadIn (pair_from pair) (rule_in program.now j) }
-{
-    let at = 4 * j;
-    let plain = meets(program[at + 1], pair.f);
-    let nots = meets(program[at + 2], pair.t);
-    let not_nots = meets(program[at + 3], pair.f);
-    plain | not_nots | nots
-}
-
 // The head of rule j.
 fn head(program: &[u16], j: usize) -> u16
     requires { 4 * j + 4 ≤ length program.now }
@@ -58,61 +34,87 @@ fn head(program: &[u16], j: usize) -> u16
     program[4 * j]
 }
 
-// The atoms that enter T by rule j. Of a sure rule these are all head atoms where all are in F, and the one outside F where it is alone.
-fn entering(program: &[u16], j: usize, pair: Pair) -> u16
-    requires { 4 * j + 4 ≤ length program.now }
-    ensures { (a : ℕ) → a ∈ result ↔ EntersBy (pair_from pair) (rule_in program.now j) a }
-{
-    if sure(program, j, pair) {
-        let all = head(program, j);
-        let rest = all.minus(pair.f);
-        return match size(rest) {
-            0 => all,
-            1 => rest,
-            _ => 0,
-        };
+impl Pair {
+    // Is rule j sure?
+    fn sure(self, program: &[u16], j: usize) -> bool
+        requires { 4 * j + 4 ≤ length program.now }
+        ensures { result ≡ sureIn (pair_from self) (rule_in program.now j) }
+    {
+        let at = 4 * j;
+        let plain = subset(program[at + 1], self.t);
+        let nots = subset(program[at + 2], self.f);
+        let not_nots = subset(program[at + 3], self.t);
+        plain & not_nots & nots
     }
-    0
+
+    // Is rule j dead?
+    fn dead(self, program: &[u16], j: usize) -> bool
+        requires { 4 * j + 4 ≤ length program.now }
+        ensures { result ≡ deadIn (pair_from self) (rule_in program.now j) }
+    {
+        let at = 4 * j;
+        let plain = meets(program[at + 1], self.f);
+        let nots = meets(program[at + 2], self.t);
+        let not_nots = meets(program[at + 3], self.f);
+        plain | not_nots | nots
+    }
+
+    // The atoms that enter T by rule j. Of a sure rule these are all head atoms where all are in F, and the one outside F where it is alone.
+    fn entering(self, program: &[u16], j: usize) -> u16
+        requires { 4 * j + 4 ≤ length program.now }
+        ensures { (a : ℕ) → a ∈ result ↔ EntersBy (pair_from self) (rule_in program.now j) a }
+    {
+        if self.sure(program, j) {
+            let all = head(program, j);
+            let rest = all.minus(self.f);
+            return match size(rest) {
+                0 => all,
+                1 => rest,
+                _ => 0,
+            };
+        }
+        0
+    }
+
+    // The atoms that rule j keeps out of F: those of its head, if it is not dead.
+    fn supported(self, program: &[u16], j: usize) -> u16
+        requires { 4 * j + 4 ≤ length program.now }
+        ensures { (a : ℕ) → a ∈ result ↔ SupportedBy (pair_from self) (rule_in program.now j) a }
+    {
+        if self.dead(program, j) {
+            return 0;
+        }
+        head(program, j)
+    }
+
+    // One step of T and F: all that enters by them is added.
+    fn stepped(self, program: &[u16], rules: usize, atoms: usize) -> Pair
+        requires { (4 * rules ≤ length program.now) × (atoms ≤ most_atoms) }
+        ensures { pair_from result ≡ step atoms (program_in program.now rules) (pair_from self) }
+    {
+        let all = full(atoms as u16);
+        let mut t = self.t;
+        let mut kept = 0;
+        for j in 0..rules {
+            t |= self.entering(program, j);
+            kept |= self.supported(program, j);
+        }
+        let f = self.f | all.minus(kept);
+        Pair {
+            t: t & all,
+            f: f & all,
+        }
+    }
 }
 
-// The atoms that rule j keeps out of F: those of its head, if it is not dead.
-fn supported(program: &[u16], j: usize, pair: Pair) -> u16
-    requires { 4 * j + 4 ≤ length program.now }
-    ensures { (a : ℕ) → a ∈ result ↔ SupportedBy (pair_from pair) (rule_in program.now j) a }
-{
-    if dead(program, j, pair) {
-        return 0;
-    }
-    head(program, j)
-}
-
-// One step of T and F: all that enters by them is added.
-fn pass(program: &[u16], rules: usize, atoms: usize, pair: Pair) -> Pair
-    requires { (4 * rules ≤ length program.now) × (atoms ≤ most_atoms) }
-    ensures { pair_from result ≡ step atoms (program_in program.now rules) (pair_from pair) }
-{
-    let all = full(atoms as u16);
-    let mut t = pair.t;
-    let mut kept = 0;
-    for j in 0..rules {
-        t |= entering(program, j, pair);
-        kept |= supported(program, j, pair);
-    }
-    let f = pair.f | all.minus(kept);
-    Pair {
-        t: t & all,
-        f: f & all,
-    }
-}
-
-// T and F. A pass that adds nothing is the last.
+// T and F. A step that adds nothing is the last.
 pub fn propagated(program: &[u16], rules: usize, atoms: usize) -> Pair
     requires { (4 * rules ≤ length program.now) × (atoms ≤ most_atoms) }
     ensures { LeastClosed atoms (program_in program.now rules) (pair_from result) }
 {
     let mut pair = Pair { t: 0, f: 0 };
     for _ in 0..2 * atoms {
-        let next = pass(program, rules, atoms, pair);
+        let next = pair.stepped(program, rules, atoms);
         if next == pair {
             return pair;
         }
@@ -128,7 +130,7 @@ fn empty_head(program: &[u16], rules: usize, pair: Pair) -> bool
 {
     for j in 0..rules {
         let empty = head(program, j) == 0;
-        if sure(program, j, pair) & empty {
+        if pair.sure(program, j) & empty {
             return true;
         }
     }

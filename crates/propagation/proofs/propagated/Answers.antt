@@ -15,13 +15,13 @@ pub returns-then-eq : goal.returns-then-eq
 returns-then-eq c =
     let a = c.args in
     let l = c.loop in
-    let next = c.pass-next in
+    let next = c.stepped-next in
     let same = (dec_and (dec_eq next.result.t l.pair.t) (dec_eq next.result.f l.pair.f)).yes (sym c.eq.ensures ∙ c.if-eq.true) in
     reached a.atoms (program_in a.program.now a.rules)
     (steps_last a.atoms (program_in a.program.now a.rules) l.counter (2 * a.atoms) (omega arith) l.invariant next.ensures same.0 same.1)
 
 pub loop-preserved : goal.loop-preserved
-loop-preserved c = let a = c.args in steps_next a.atoms (program_in a.program.now a.rules) c.loop.counter c.loop.invariant c.pass-next.ensures
+loop-preserved c = let a = c.args in steps_next a.atoms (program_in a.program.now a.rules) c.loop.counter c.loop.invariant c.stepped-next.ensures
 
 pub returns : goal.returns
 returns c =
