@@ -15,6 +15,7 @@ fn support_by(patterns: &Patterns, r: Digest, w: u16, by: &mut [u64; 16])
     ensures { SupportAdded r w by.old by.new }
 {
     let mut rest = r.head.minus(r.plain);
+    // a set, member by member, and no range: a `for` would want an iterator with a proof of its own, and be no plainer
     while rest > 0 {
         let a = rest.first();
         let one = power(a as u16);
