@@ -25,12 +25,9 @@ pub fn clashes(mask: u16, assumed: &[u64; 16], with: &[u64; 16], without: &[u64;
     ensures { Lanes (ClashIn mask assumed.now with.now without.now) result }
 {
     let mut lanes = 0;
-    let mut rest = mask;
-    while rest > 0 {
-        let a = rest.first();
+    for a in mask.members() {
         let these = assumed[a];
         lanes = lanes | ((these & with[a]) | without[a].minus(these));
-        rest = rest & (rest - 1);
     }
     lanes
 }

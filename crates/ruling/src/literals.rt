@@ -20,10 +20,8 @@ pub fn in_all(mask: u16, row: &[u64; 16]) -> u64
     ensures { Lanes (InAll mask row.now) result }
 {
     let mut lanes = u64::MAX;
-    let mut rest = mask;
-    while rest > 0 {
-        lanes = lanes & row[rest.first()];
-        rest = rest & (rest - 1);
+    for a in mask.members() {
+        lanes = lanes & row[a];
     }
     lanes
 }
@@ -33,10 +31,8 @@ pub fn in_some(mask: u16, row: &[u64; 16]) -> u64
     ensures { Lanes (InSome mask row.now) result × (mask < 2 ^ 16) }
 {
     let mut lanes = 0;
-    let mut rest = mask;
-    while rest > 0 {
-        lanes = lanes | row[rest.first()];
-        rest = rest & (rest - 1);
+    for a in mask.members() {
+        lanes = lanes | row[a];
     }
     lanes
 }

@@ -30,11 +30,8 @@ fn lone(head: u16) -> Option<usize>
 fn narrow(head: u16, lanes: u64, shut: &mut [u64; 16])
     ensures { Narrowed head 0 lanes shut.old shut.new }
 {
-    let mut rest = head;
-    while rest > 0 {
-        let a = rest.first();
+    for a in head.members() {
         shut[a] = shut[a] & lanes;
-        rest = rest & (rest - 1);
     }
 }
 

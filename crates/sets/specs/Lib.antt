@@ -9,3 +9,4 @@ pub mod Size
 pub mod One
 pub mod Parts
 pub mod Least
+pub mod Walks

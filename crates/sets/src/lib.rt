@@ -1,6 +1,7 @@
 // Words as sets of numbers. Each contract is in terms of sets; what the tests decide is in specs/Members.antt and specs/Size.antt.
 #![tactic(auto)]
 
+mod members;
 mod narrow;
 mod set;
 mod wide;
@@ -9,6 +10,7 @@ ghost use Rattle.std.specs.Prelude.{◌≡◌, not, ◌&&◌, ◌^◌, ◌<◌};
 ghost use Rattle.sets.specs.Sets.{◌⊆?◌, ◌meets?◌, full as full_of, size as size_of};
 ghost use Rattle.sets.specs.One.{OneOf};
 
+pub use members::Members;
 pub use set::Set;
 
 // Is every member of x in y?

@@ -24,4 +24,12 @@ impl Set for u16 {
     fn first(self) -> usize {
         u16::trailing_zeros(self) as usize
     }
+
+    fn is_empty(self) -> bool {
+        self == 0
+    }
+
+    fn others(self) -> u16 {
+        self & (self - 1)
+    }
 }

@@ -24,4 +24,12 @@ impl Set for u64 {
     fn first(self) -> usize {
         u64::trailing_zeros(self) as usize
     }
+
+    fn is_empty(self) -> bool {
+        self == 0
+    }
+
+    fn others(self) -> u64 {
+        self & (self - 1)
+    }
 }

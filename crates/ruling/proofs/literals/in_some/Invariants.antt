@@ -2,8 +2,5 @@
 use Rattle.ruling.specs.Literals.{AtAtom, SomeBut}
 use Rattle.ruling.proofs.literals.in_some.Given as goal
 
-abbrev pub invariant-loop-rest : goal.invariant-loop-rest
-invariant-loop-rest l = SomeBut (AtAtom l.row) l.mask l.rest l.lanes
-
-abbrev pub decreases-loop-rest : goal.decreases-loop-rest
-decreases-loop-rest l = l.rest
+abbrev pub invariant-loop-a : goal.invariant-loop-a
+invariant-loop-a l = SomeBut (AtAtom l.row) l.mask l.a-iterator.rest l.lanes

@@ -4,8 +4,5 @@ use lib.ListN.{length}
 use Rattle.ruling.specs.Pass.{Narrowed}
 use Rattle.ruling.proofs.pass.narrow.Given as goal
 
-abbrev pub invariant-loop-rest : goal.invariant-loop-rest
-invariant-loop-rest l = (length l.shut ≡ 16) × Narrowed l.head l.rest l.lanes l.initial.shut l.shut
-
-abbrev pub decreases-loop-rest : goal.decreases-loop-rest
-decreases-loop-rest l = l.rest
+abbrev pub invariant-loop-a : goal.invariant-loop-a
+invariant-loop-a l = (length l.shut ≡ 16) × Narrowed l.head l.a-iterator.rest l.lanes l.initial.shut l.shut
