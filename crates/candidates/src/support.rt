@@ -14,14 +14,10 @@ use sets::{Set, power};
 fn support_by(patterns: &Patterns, r: Digest, w: u16, by: &mut [u64; 16])
     ensures { SupportAdded r w by.old by.new }
 {
-    let mut rest = r.head.minus(r.plain);
-    // a set, member by member, and no range: a `for` would want an iterator with a proof of its own, and be no plainer
-    while rest > 0 {
-        let a = rest.first();
+    for a in r.head.minus(r.plain).members() {
         let one = power(a as u16);
         let sets = patterns.cube(r.nots | r.head.minus(one), r.body | r.plain | one, w);
         by[a] |= sets;
-        rest &= rest - 1;
     }
 }
 

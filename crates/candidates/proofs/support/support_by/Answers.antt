@@ -3,17 +3,16 @@ use native.Mathlib.Omega.{arith}
 use Rattle.candidates.proofs.Lanes.{none-added, atom_added, all_added}
 use Rattle.candidates.proofs.support.support_by.Goals as goal
 
-pub loop-rest-init : goal.loop-rest-init
-loop-rest-init c = let a = c.args in none-added a.r a.w a.by.now c.minus-rest.ensures
-
-pub loop-rest-preserved : goal.loop-rest-preserved
-loop-rest-preserved c =
-    let l = c.loop-rest in
+pub loop-a-init : goal.loop-a-init
+loop-a-init c =
     let a = c.args in
-    atom_added a.r a.w a.by.now l.invariant c.first-a.ensures.0 (omega arith) c.power-one.ensures c.minus.ensures c.cube-sets.ensures
+    rw (c.into_iter-a-iterator.ensures.into_iter_gives, c.members-a-items.ensures) (none-added a.r a.w a.by.now c.minus.ensures)
+
+pub loop-a-preserved : goal.loop-a-preserved
+loop-a-preserved c =
+    let a = c.args in
+    let s = c.in-Some.ensures.steps in
+    rw s.others (atom_added a.r a.w a.by.now c.loop-a.invariant s.least (omega (arith, s.within)) c.power-one.ensures c.minus-in-loop-a.ensures c.cube-sets.ensures)
 
 pub returns : goal.returns
-returns c =
-    let l = c.loop-rest in
-    let a = c.args in
-    all_added a.r a.w a.by.now (omega arith) l.invariant
+returns c = let a = c.args in all_added a.r a.w a.by.now c.in-None.ensures.steps c.loop-a.invariant

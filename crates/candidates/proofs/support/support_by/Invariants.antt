@@ -2,8 +2,5 @@
 use Rattle.candidates.proofs.Lanes.{AddedBut}
 use Rattle.candidates.proofs.support.support_by.Given as goal
 
-abbrev pub invariant-loop-rest : goal.invariant-loop-rest
-invariant-loop-rest l = AddedBut l.r l.w l.initial.by l.rest l.by
-
-abbrev pub decreases-loop-rest : goal.decreases-loop-rest
-decreases-loop-rest l = l.rest
+abbrev pub invariant-loop-a : goal.invariant-loop-a
+invariant-loop-a l = AddedBut l.r l.w l.initial.by l.a-iterator.rest l.by
