@@ -41,19 +41,16 @@ module _ (x : Outline) where
   pub record At (a j : ℕ) : Type 0 where
     pub few : a ≤ x.atoms
     pub number : j ≡ before a
+    pub small : j ≤ most_negations
 
   pub at_first : At 0 0
   unfolding negations_in flat up_to
-  at_first = record { few = omega arith; number = refl }
+  at_first = record { few = omega arith; number = refl; small = omega arith }
 
   pub at_end : {a j : ℕ} → At a j → x.atoms ≤ a → j ≡ length (negations_by x)
   at_end {a} at h =
       let e : a ≡ x.atoms = omega (arith, at.few) in
       at.number ∙ ap before e
-
-  -- and it is small
-  pub low : Few x → {a j : ℕ} → At a j → a < x.atoms → j ≤ most_negations
-  low few {a} {j} at h = omega (arith, few.1, at.number, number_fits x.k_atoms x.m_atoms x.atoms a h)
 
   module _ {a j : ℕ} (at : At a j) (h : a < x.atoms) {b b' : Bool} {o o' : ℕ} (k : b ≡ (a ∈? x.k_atoms)) (n : o ≡ from_bool b)
       (m : b' ≡ (a ∈? x.m_atoms)) (n' : o' ≡ from_bool b') where
@@ -63,8 +60,12 @@ module _ (x : Outline) where
     second : o' ≡ one (a ∈? x.m_atoms)
     second = n' ∙ as_one b' ∙ ap one m
 
-    pub at_next : At (a + 1) (j + o + o')
-    at_next = record { few = omega arith; number = subst (λ z. j + o + o' ≡ before z) (sym (add-one a)) whole }
+    pub at_next : Few x → At (a + 1) (j + o + o')
+    at_next limits = record {
+      few = omega arith;
+      number = subst (λ z. j + o + o' ≡ before z) (sym (add-one a)) whole;
+      small = omega (arith, limits.1, whole, next_number x.k_atoms x.m_atoms a, number_fits x.k_atoms x.m_atoms x.atoms a h);
+    }
       where
         whole : j + o + o' ≡ before (suc a)
         whole = omega (arith, at.number, first, second, next_number x.k_atoms x.m_atoms a)

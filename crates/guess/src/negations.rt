@@ -13,6 +13,7 @@ pub struct Assumptions {
 }
 
 // What a guess assumes, atom by atom.
+#[tactic(auto, using(crate::proofs::Turns::at_most_one))]
 pub fn assumed(x: Outline, guess: u16) -> Assumptions
     requires { Few x }
     ensures { result ≡ assumed_by x guess }
@@ -36,6 +37,7 @@ pub fn assumed(x: Outline, guess: u16) -> Assumptions
 }
 
 // The guess found: it has "not K a" where a is not known, and "M a" where a is possible.
+#[tactic(auto, using(crate::proofs::Turns::at_most_one))]
 pub fn found(x: Outline, known: u16, possible: u16) -> u16
     requires { Few x }
     ensures { result ≡ found_by x known possible }

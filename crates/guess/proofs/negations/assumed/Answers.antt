@@ -7,7 +7,7 @@ use Rattle.semantics.specs.Definitions.Guesses.{not_known, may_be}
 use Rattle.guess.specs.declared.outline.Outline.{Outline}
 use Rattle.guess.specs.declared.negations.Assumptions.{Assumptions}
 use Rattle.guess.specs.Negations.{assumed_by}
-use Rattle.guess.proofs.Turns.{in_guess, at_first, at_next, low, at_most_one, unknown_next, maybe_next}
+use Rattle.guess.proofs.Turns.{in_guess, at_first, at_next, unknown_next, maybe_next}
 use Rattle.guess.proofs.negations.assumed.Goals as goal
 
 done : (x : Outline) (g a : ℕ) → a ≡ x.atoms → {u p : ℕ} → u ≡ set_of (in_guess x not_known g) a → p ≡ set_of (in_guess x may_be g) a
@@ -17,31 +17,6 @@ done x g a e d f = rw (d, f, e)
 pub loop-a-init : goal.loop-a-init
 unfolding set_of
 loop-a-init c = (at_first _, refl, refl)
-
-pub has-k_in-requires : goal.has-k_in-requires
-has-k_in-requires c =
-    let l = c.loop-a in
-    let h = low _ c.requires l.invariant.0 c.loop-a-test.true in
-    omega (arith, h)
-
-pub overflow_add-j : goal.overflow_add-j
-overflow_add-j c =
-    let l = c.loop-a in
-    let h = low _ c.requires l.invariant.0 c.loop-a-test.true in
-    omega (arith, h, at_most_one c.has-k.result c.from-j.ensures)
-
-pub has-m_in-requires : goal.has-m_in-requires
-has-m_in-requires c =
-    let l = c.loop-a in
-    let h = low _ c.requires l.invariant.0 c.loop-a-test.true in
-    omega (arith, h, at_most_one c.has-k.result c.from-j.ensures)
-
-pub overflow_add-j-in-loop-a : goal.overflow_add-j-in-loop-a
-overflow_add-j-in-loop-a c =
-    let l = c.loop-a in
-    let h = low _ c.requires l.invariant.0 c.loop-a-test.true in
-    let k = at_most_one c.has-k.result c.from-j.ensures in
-    omega (arith, h, k, at_most_one c.has-m.result c.from-j-in-loop-a.ensures)
 
 pub loop-a-preserved : goal.loop-a-preserved
 loop-a-preserved c =
@@ -54,7 +29,7 @@ loop-a-preserved c =
     let n' = c.from-j-in-loop-a.ensures in
     let i = c.has-k_in.ensures in
     let i' = c.has-m_in.ensures in (
-      at_next a.x l.invariant.0 h k n m n',
+      at_next a.x l.invariant.0 h k n m n' c.requires,
       unknown_next a.x l.invariant.0 h k n m n' a.guess i i' l.invariant.1 c.include-unknown.ensures,
       maybe_next a.x l.invariant.0 h k n m n' a.guess i i' l.invariant.2 c.include-maybe.ensures,
     )

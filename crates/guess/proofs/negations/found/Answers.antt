@@ -3,37 +3,12 @@ use native.Mathlib.Omega.{arith}
 use mathlib.Core.Path.{refl, ap, ◌∙◌}
 use mathlib.Core.Bool.{not}
 use Rattle.sets.specs.Sets.{set_of}
-use Rattle.guess.proofs.Turns.{at_first, at_next, low, at_most_one, at_end, found_next}
+use Rattle.guess.proofs.Turns.{at_first, at_next, at_end, found_next}
 use Rattle.guess.proofs.negations.found.Goals as goal
 
 pub loop-a-init : goal.loop-a-init
 unfolding set_of
 loop-a-init c = (at_first _, refl)
-
-pub include-guess-requires : goal.include-guess-requires
-include-guess-requires c =
-    let l = c.loop-a in
-    let h = low _ c.requires l.invariant.0 c.loop-a-test.true in
-    omega (arith, h)
-
-pub overflow_add-j : goal.overflow_add-j
-overflow_add-j c =
-    let l = c.loop-a in
-    let h = low _ c.requires l.invariant.0 c.loop-a-test.true in
-    omega (arith, h, at_most_one c.has-k.result c.from-j.ensures)
-
-pub include-guess-requires-in-loop-a : goal.include-guess-requires-in-loop-a
-include-guess-requires-in-loop-a c =
-    let l = c.loop-a in
-    let h = low _ c.requires l.invariant.0 c.loop-a-test.true in
-    omega (arith, h, at_most_one c.has-k.result c.from-j.ensures)
-
-pub overflow_add-j-in-loop-a : goal.overflow_add-j-in-loop-a
-overflow_add-j-in-loop-a c =
-    let l = c.loop-a in
-    let h = low _ c.requires l.invariant.0 c.loop-a-test.true in
-    let k = at_most_one c.has-k.result c.from-j.ensures in
-    omega (arith, h, k, at_most_one c.has-m.result c.from-j-in-loop-a.ensures)
 
 pub loop-a-preserved : goal.loop-a-preserved
 loop-a-preserved c =
@@ -47,7 +22,7 @@ loop-a-preserved c =
     let i = ap not c.has-unknown.ensures in
     let i' = c.has-may.ensures in
     let g = c.include-guess.ensures in (
-      at_next a.x l.invariant.0 h k n m n',
+      at_next a.x l.invariant.0 h k n m n' c.requires,
       found_next a.x l.invariant.0 h k n m n' a.known a.possible i i' l.invariant.1 g c.include-guess-in-loop-a.ensures,
     )
 
