@@ -1,12 +1,13 @@
 -- The rules at a set, rule by rule. Assumes nothing.
-use Prim.Native.Nat.{ℕ, ◌+◌, ◌*◌, ◌≤◌, ◌<◌}
+use Prim.Native.Nat.{ℕ, ◌+◌, ◌≤◌, ◌<◌}
 use mathlib.Core.Path.{◌≡◌, refl, sym, ap, ap₂, ◌∙◌, subst}
 use mathlib.Core.Bool.{Bool, true, false, not, ◌&&◌}
 use mathlib.Core.List.{List, [], ◌∷◌, ◌++◌, map, map-append, append-nil}
 use mathlib.Core.Logic.{inl, inr, ⊎_elim}
 use native.Mathlib.Omega.{arith}
 use native.Mathlib.Numerals.{add-one}
-use lib.ListN.{take, get_or}
+use lib.ListN.{length, set}
+use lib.Seq.{get_or-set_same, get_or-set_other}
 use Rattle.sets.specs.Decides.{decided, dec_eq}
 use Rattle.sets.specs.Lists.{◌among◌, nowhere, all_snoc, only, up_to, among-map, map_up_to_suc, map_up_to_same}
 use Rattle.sets.specs.Sets.{◌∈◌, ◌⊆◌, ◌∩◌, ◌∪◌, ◌∖◌, ◌⊆?◌, ◌meets?◌}
@@ -14,33 +15,29 @@ use Rattle.sets.specs.Members.{some-member, dec_∈, dec_⊆, ∈-∪, ∈-∖, 
 use Rattle.semantics.specs.Definitions.Rules.{EpistemicRule}
 use Rattle.semantics.specs.Definitions.Sheet.{rule_of_masks}
 use Rattle.semantics.specs.Definitions.Setting.{Setting}
-use Rattle.semantics.specs.Words.{masks_in, rules_in, rules-none, rules-more, among-rules, word_stays}
+use Rattle.semantics.specs.Words.{masks_in, rules_in, rules-none, rules-more, among-rules}
 use Rattle.semantics.specs.AtSet.{need, GatheredRule, gathers, gather_rule, gathered_rules, StableBy}
 use Rattle.semantics.specs.Theorems.AtSet.{Supports}
 use Rattle.semantics.proofs.Theorems.AtSet.{dec_gathers, among-gathered, gathered_head, gathered_none, gathered-more, struck, unsupported}
 use Rattle.guess.specs.declared.outline.Outline.{Outline}
 use Rattle.guess.specs.Programs.{unmasked_in}
-use Rattle.gather.specs.declared.AtSet.{AtSet}
+use Rattle.lanes.specs.declared.rule.Rule.{Rule}
 use Rattle.gather.specs.declared.digest.Digest.{Digest}
 use Rattle.gather.specs.Digests.{digest_in, Digested}
 use Rattle.gather.specs.Gathers.{rule_from, rule_at, rules_at, at_set}
 
 -- ---- the room
-at_none : (room : List ℕ) → rules_at room 0 ≡ []
+at_none : (room : List Rule) → rules_at room 0 ≡ []
 unfolding rules_at up_to
 at_none room = refl
 
-at_more : (room : List ℕ) (n : ℕ) → rules_at room (n + 1) ≡ rules_at room n ++ rule_at room n ∷ []
+at_more : (room : List Rule) (n : ℕ) → rules_at room (n + 1) ≡ rules_at room n ++ rule_at room n ∷ []
 unfolding rules_at
 at_more room n = ap (rules_at room) (add-one n) ∙ map_up_to_suc (rule_at room) n
 
-at_stays : (a b : List ℕ) (n : ℕ) → take (4 * n) a ≡ take (4 * n) b → rules_at a n ≡ rules_at b n
+at_stays : (room : List Rule) (n : ℕ) (e : Rule) → rules_at (set room n e) n ≡ rules_at room n
 unfolding rules_at
-at_stays a b n e = map_up_to_same (rule_at a) (rule_at b) n (λ j h.
-    cc (word (4 * j) (omega arith), word (4 * j + 1) (omega arith), word (4 * j + 2) (omega arith), word (4 * j + 3) (omega arith)))
-  where
-    word : (i : ℕ) → i < 4 * n → get_or a i 0 ≡ get_or b i 0
-    word i l = word_stays (4 * n) a b e i l
+at_stays room n e = map_up_to_same (rule_at (set room n e)) (rule_at room) n (λ j h. ap rule_from (get_or-set_other room n j e _ (λ q. omega arith)))
 
 -- ---- of the rules in the words
 module _ (x : Outline) (words : List ℕ) (i : ℕ) where
@@ -54,11 +51,11 @@ module _ (x : Outline) (words : List ℕ) (i : ℕ) where
   first j = map rule_of_masks (rules_in words j)
 
   -- of the first j those that are gathered stand in the room
-  pub record Stand (room : List ℕ) (n j : ℕ) : Type 0 where
+  pub record Stand (room : List Rule) (n j : ℕ) : Type 0 where
     pub few : n ≤ j
     pub rules : rules_at room n ≡ gathered_rules s (first j) i
 
-  pub none_stand : (room : List ℕ) → Stand room 0 0
+  pub none_stand : (room : List Rule) → Stand room 0 0
   none_stand room = record { few = omega arith; rules = at_none room ∙ sym (ap (λ rs. gathered_rules s (map rule_of_masks rs) i) (rules-none words) ∙ gathered_none s i) }
 
   more : (j : ℕ) → gathered_rules s (first (j + 1)) i ≡ gathered_rules s (first j) i ++ only (gathers s i (rule_of j)) (gather_rule s i (rule_of j))
@@ -77,7 +74,7 @@ module _ (x : Outline) (words : List ℕ) (i : ℕ) where
         asks : Digest → ℕ → Bool
         asks z q = (z.body ⊆? i) && not (z.nots meets? i) && not (z.barred meets? q)
 
-    pub rule_is : {e : AtSet} → e ≡ record { head = r.head ∩ i; plain = r.plain; misses = r.barred; holds = r.asked ∖ needed }
+    pub rule_is : {e : Rule} → e ≡ record { head = r.head ∩ i; plain = r.plain; misses = r.barred; holds = r.asked ∖ needed }
         → rule_from e ≡ gather_rule s i (rule_of j)
     rule_is e = ap rule_from e ∙ ap₂ rule_by (d.rule h) is
       where
@@ -95,7 +92,7 @@ module _ (x : Outline) (words : List ℕ) (i : ℕ) where
         )
 
     -- every guess switches it on, and it has no head atom in the set
-    pub fails : {e : AtSet} → gathers s i (rule_of j) ≡ true → rule_from e ≡ gather_rule s i (rule_of j) → e.head ∪ e.misses ∪ e.holds ≡ 0
+    pub fails : {e : Rule} → gathers s i (rule_of j) ≡ true → rule_from e ≡ gather_rule s i (rule_of j) → e.head ∪ e.misses ∪ e.holds ≡ 0
         → (g : ℕ) → StableBy (at_set x words i) i g → ⊥
     fails {e} g f empty =
         let (both, holds) = ∪-∅ (e.head ∪ e.misses) e.holds empty in
@@ -103,13 +100,14 @@ module _ (x : Outline) (words : List ℕ) (i : ℕ) where
         struck (at_set x words i) (rule_from e) (subst (λ z. z among at_set x words i) (sym f) (there g)) head misses holds i
 
   -- ---- one rule more
-  module _ {room : List ℕ} {n j : ℕ} (w : Stand room n j) where
-    pub written : {after : List ℕ} {e : AtSet} {b : Bool} → take (4 * n) after ≡ take (4 * n) room → b ≡ gathers s i (rule_of j) → b ≡ true
-        → rule_from e ≡ gather_rule s i (rule_of j) → rule_at after n ≡ rule_from e → Stand after (n + 1) (j + 1)
-    written {after} stays answer told is at = record {
-      few = omega (arith, w.few);
-      rules = at_more after n ∙ rw (at_stays after room n stays ∙ w.rules, at ∙ is) (sym (more j ∙ rw (sym answer ∙ told) refl));
-    }
+  module _ {room : List Rule} {n j : ℕ} (w : Stand room n j) where
+    pub written : {e : Rule} {b : Bool} → n < length room → b ≡ gathers s i (rule_of j) → b ≡ true → rule_from e ≡ gather_rule s i (rule_of j)
+        → Stand (set room n e) (n + 1) (j + 1)
+    written {e} h answer told is =
+        let at : rule_at (set room n e) n ≡ rule_from e = ap rule_from (get_or-set_same room n e _ h) in record {
+          few = omega (arith, w.few);
+          rules = at_more (set room n e) n ∙ rw (at_stays room n e ∙ w.rules, at ∙ is) (sym (more j ∙ rw (sym answer ∙ told) refl));
+        }
 
     pub left_out : {b : Bool} → b ≡ gathers s i (rule_of j) → b ≡ false → Stand room n (j + 1)
     left_out answer told = record {
@@ -127,7 +125,7 @@ module _ (x : Outline) (words : List ℕ) (i : ℕ) where
   }
 
   module _ {atoms j : ℕ} (h : Held atoms j) {b : Bool} (answer : b ≡ gathers s i (rule_of j)) where
-    pub held_more : {e : AtSet} {r : ℕ} → b ≡ true → rule_from e ≡ gather_rule s i (rule_of j) → ((a : ℕ) → Supports (rule_from e) a → a ∈ r) → Held (atoms ∪ r) (j + 1)
+    pub held_more : {e : Rule} {r : ℕ} → b ≡ true → rule_from e ≡ gather_rule s i (rule_of j) → ((a : ℕ) → Supports (rule_from e) a → a ∈ r) → Held (atoms ∪ r) (j + 1)
     held_more {r = r} told is f = record {
       held = λ z m a q. all_snoc (λ y. (a : ℕ) → Supports y a → a ∈ atoms ∪ r) (gathered_rules s (first j) i) (gather_rule s i (rule_of j))
           (λ y k a q. (∈-∪ a atoms r).1 (inl (h.held y k a q))) (λ a q. (∈-∪ a atoms r).1 (inr (f a (subst (λ y. Supports y a) (sym is) q))))

@@ -3,27 +3,18 @@
 
 pub mod digest;
 
-ghost use Rattle.std.specs.Prelude.{◌≡◌, not, ◌&&◌, ℕ, ◌+◌, ◌*◌, ◌≤◌, length, take};
+ghost use Rattle.std.specs.Prelude.{◌≡◌, not, ◌&&◌, ℕ, ◌≤◌, length};
 ghost use Rattle.sets.specs.Sets.{◌∈◌, ◌∩◌, ◌∖◌, ◌⊆?◌, ◌meets?◌};
 ghost use Rattle.semantics.specs.AtSet.{need};
 ghost use Rattle.semantics.specs.Theorems.AtSet.{Supports};
 ghost use Rattle.guess.specs.Programs.{unmasked_in, Outlines};
 ghost use Rattle.gather.specs.Digests.{Digested};
-ghost use Rattle.gather.specs.Gathers.{GatheredAt, rule_at, rule_from};
+ghost use Rattle.gather.specs.Gathers.{GatheredAt, rule_from};
 
 use digest::Digest;
 use guess::outline::Outline;
+use lanes::rule::Rule;
 use sets::{Set, has_and_lacks, meets, size, subset};
-
-// A rule that a guess can switch on at a set: its head within the set, its plain atoms, the negations that such a guess misses and those that it
-// holds.
-#[derive(Clone, Copy, PartialEq, Eq, Debug)]
-pub struct AtSet {
-    pub head: u16,
-    pub plain: u16,
-    pub misses: u16,
-    pub holds: u16,
-}
 
 impl Digest {
     // Can a guess switch the rule on at the set i, which needs these negations? No guess switches another one on.
@@ -35,11 +26,11 @@ impl Digest {
         body & !barred
     }
 
-    // Such a rule, at the set.
-    fn at_set(self, i: u16, needed: u16) -> AtSet
+    // Such a rule, at the set: its head within the set, its plain atoms, the negations that such a guess misses and those that it holds.
+    fn at_set(self, i: u16, needed: u16) -> Rule
         ensures { result ≡ record { head = self.head ∩ i; plain = self.plain; misses = self.barred; holds = self.asked ∖ needed } }
     {
-        AtSet {
+        Rule {
             head: self.head & i,
             plain: self.plain,
             misses: self.barred,
@@ -48,30 +39,14 @@ impl Digest {
     }
 }
 
-impl AtSet {
-    // A set that has the atom it supports, where it does: its only head atom in the set, not among its plain atoms.
-    fn supported(self) -> u16
-        ensures { (a : ℕ) → Supports (rule_from self) a → a ∈ result }
-    {
-        if size(self.head) == 1 {
-            return self.head.minus(self.plain);
-        }
-        0
-    }
-}
-
-// Writes it as rule n, four words a rule.
-fn put(e: AtSet, n: usize, room: &mut [u16])
-    requires { 4 * n + 4 ≤ length room.old }
-    ensures room_len_unchanged { length room.new ≡ length room.old }
-    ensures room_unchanged { take (4 * n) room.new ≡ take (4 * n) room.old }
-    ensures n_after { rule_at room.new n ≡ rule_from e }
+// A set that has the atom it supports, where it does: its only head atom in the set, not among its plain atoms.
+fn supported(e: Rule) -> u16
+    ensures { (a : ℕ) → Supports (rule_from e) a → a ∈ result }
 {
-    let at = 4 * n;
-    room[at] = e.head;
-    room[at + 1] = e.plain;
-    room[at + 2] = e.misses;
-    room[at + 3] = e.holds;
+    if size(e.head) == 1 {
+        return e.head.minus(e.plain);
+    }
+    0
 }
 
 // Gathers the rules that a guess can switch on at the set i, which needs these negations, and says how many they are. None where one that every
@@ -82,9 +57,9 @@ pub fn gather(
     digests: &[Digest],
     i: u16,
     needed: u16,
-    room: &mut [u16],
+    room: &mut [Rule],
 ) -> Option<usize>
-    requires { Outlines x words.now × Digested x words.now digests.now × (needed ≡ need (unmasked_in x words.now) i) × (4 * x.rules ≤ length room.old) }
+    requires { Outlines x words.now × Digested x words.now digests.now × (needed ≡ need (unmasked_in x words.now) i) × (x.rules ≤ length room.old) }
     ensures room_len_unchanged { length room.new ≡ length room.old }
     ensures gathered_at { GatheredAt x words.now i room.new result }
 {
@@ -96,8 +71,8 @@ pub fn gather(
             if e.head | e.misses | e.holds == 0 {
                 return None;
             }
-            atoms |= e.supported();
-            put(e, n, &mut room[..]);
+            atoms |= supported(e);
+            room[n] = e;
             n += 1;
         }
     }

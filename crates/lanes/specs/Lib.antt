@@ -2,6 +2,7 @@
 pub mod Lanes
 pub mod Cube
 pub mod Planes
+pub mod Rules
 pub mod Smaller
 pub mod Stable
 pub mod Noted

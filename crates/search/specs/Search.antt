@@ -1,6 +1,6 @@
 -- A search, in many lanes at once, for a proper subset of i that is a model of the rules that are on: it has every atom of j, and no atom of out.
 -- Where a rule fails in j, an atom of its head is decided: it is in the subset, or it is not. Assumes nothing.
-use Rattle.std.specs.Prelude.{ℕ, ◌+◌, ◌*◌, ◌≤◌, ◌<◌, ◌≡◌, refl, List, ◌↔◌, ◌⊎◌, get_or, Option}
+use Rattle.std.specs.Prelude.{ℕ, ◌+◌, ◌≤◌, ◌<◌, ◌≡◌, refl, List, ◌↔◌, ◌⊎◌, get_or, Option}
 use Rattle.std.specs.Option.{MatchOption}
 use Rattle.std.proofs.Common.{sym, subst, inl, inr, ⊎_elim, arith, not-suc-le-zero, below_more}
 use Rattle.sets.specs.Decides.{decided}
@@ -8,6 +8,8 @@ use Rattle.sets.specs.Sets.{◌∈◌, ◌⊆◌, ◌⊂◌, Meets, ◌∩◌, �
 use Rattle.sets.specs.Members.{dec_∈, ∈-∅, ∈-∩, ∈-∪, ∈-∖, ∈-single, ⊆_trans, ⊆_refl, ⊆_antisym, ∪-⊆, ∖-⊆, ⊆_∪_left, ⊆_∪_right, dec_meets, meets-⊆}
 use Rattle.sets.specs.One.{OneOf}
 use Rattle.sets.specs.Size.{size-⊂}
+use Rattle.lanes.specs.declared.rule.Rule.{Rule}
+use Rattle.lanes.specs.Rules.{rule_at}
 use Rattle.lanes.specs.Lanes.{Lanes, lanes_self, lanes_is, lanes_iff, lanes_and, lanes_or, lanes_minus, lanes_none}
 use Rattle.lanes.specs.Smaller.{Fails, Passes, passes_none}
 use Rattle.search.specs.Smaller.{Small}
@@ -65,20 +67,20 @@ module _ (i j out head : ℕ) {a : ℕ} (o : OneOf (head ∩ undecided i j out) 
   )
 
 -- ---- one lane
-module _ {rules on : List ℕ} {n i j out b : ℕ} where
+module _ {rules : List Rule} {on : List ℕ} {n i j out b : ℕ} where
   small_all : j ≡ i → Small rules on n i j out b → ⊥
   small_all e t = t.within.differ (⊆_antisym t.within.within (subst (λ z. z ⊆ t.set) e t.from))
 
   -- a rule that is on and fails in j, and has no undecided atom in its head
-  small_none : (r : ℕ) → r < n → b ∈ get_or on r 0 → Fails rules r j → get_or rules (4 * r) 0 ∩ undecided i j out ≡ ∅ → Small rules on n i j out b → ⊥
+  small_none : (r : ℕ) → r < n → b ∈ get_or on r 0 → Fails (rule_at rules r) j → (rule_at rules r).head ∩ undecided i j out ≡ ∅ → Small rules on n i j out b → ⊥
   small_none r l o f e t =
       ⊎_elim (λ m.
       let decided_no : m.common ∈ j ∪ out → ⊥ = λ k.
       ⊎_elim (λ u. f.head (record { common = m.common; left = m.left; right = u }))
       (λ u. t.apart (record { common = m.common; left = m.right; right = u })) ((∈-∪ m.common j out).0 k) in
       let h = (∈-∖ m.common i (j ∪ out)).1 (t.within.within.into m.right, decided_no) in
-      ∈-∅ {a = m.common} (subst (λ z. m.common ∈ z) e ((∈-∩ m.common (get_or rules (4 * r) 0) (undecided i j out)).1 (m.left, h))))
-      (λ d. t.passes.rule r l o (record { body = ⊆_trans f.body t.from; head = d })) (decided (dec_meets (get_or rules (4 * r) 0) t.set))
+      ∈-∅ {a = m.common} (subst (λ z. m.common ∈ z) e ((∈-∩ m.common ((rule_at rules r).head) (undecided i j out)).1 (m.left, h))))
+      (λ d. t.passes.rule r l o (record { body = ⊆_trans f.body t.from; head = d })) (decided (dec_meets ((rule_at rules r).head) t.set))
 
   -- an atom is in the set, or it is not
   small_splits : {s a : ℕ} → OneOf s a → Small rules on n i j out b ↔ (Small rules on n i (j ∪ a) out b ⊎ Small rules on n i j (out ∪ a) b)
@@ -97,11 +99,11 @@ module _ {rules on : List ℕ} {n i j out b : ℕ} where
   )
 
 -- ---- the lanes x: j passes the first r rules in those that are left; of the others, those in which there is a small set are found
-pub record Searched (rules on : List ℕ) (n i j out x r left found : ℕ) : Type 0 where
+pub record Searched (rules : List Rule) (on : List ℕ) (n i j out x r left found : ℕ) : Type 0 where
   pub passing : Lanes (λ b. (b ∈ x) × Passes rules on r b j) left
   pub small : Lanes (λ b. (b ∈ x) × (Passes rules on r b j → ⊥) × Small rules on n i j out b) found
 
-module _ {rules on : List ℕ} {n i j out x : ℕ} where
+module _ {rules : List Rule} {on : List ℕ} {n i j out x : ℕ} where
   pub search_full : j ≡ i → Lanes (λ b. (b ∈ x) × Small rules on n i j out b) ∅
   search_full e = lanes_none (λ b l u. small_all e u.1)
 
@@ -115,12 +117,12 @@ module _ {rules on : List ℕ} {n i j out x : ℕ} where
       → Searched rules on n i j out x r left' found'
   search_is e h s = record { passing = lanes_is e s.passing; small = lanes_is h s.small }
 
-module _ {rules on : List ℕ} {n i j out x r left found : ℕ} (s : Searched rules on n i j out x r left found) where
+module _ {rules : List Rule} {on : List ℕ} {n i j out x r left found : ℕ} (s : Searched rules on n i j out x r left found) where
   less : {b : ℕ} → Passes rules on (r + 1) b j → Passes rules on r b j
   less p = record { rule = λ q k. p.rule q (omega arith) }
 
   -- rule r fails in j in no lane that is left
-  pub search_holds : ((b : ℕ) → b ∈ left → b ∈ get_or on r 0 → Fails rules r j → ⊥) → Searched rules on n i j out x (r + 1) left found
+  pub search_holds : ((b : ℕ) → b ∈ left → b ∈ get_or on r 0 → Fails (rule_at rules r) j → ⊥) → Searched rules on n i j out x (r + 1) left found
   search_holds h = record {
     passing = lanes_iff (λ b l. (λ u. (u.0, more b l u.0 u.1), λ u. (u.0, less u.1))) s.passing;
     small = lanes_iff (λ b l. (λ u. (u.0, λ p. u.1 (less p), u.2), λ u. (u.0, λ p. u.1 (more b l u.0 p), u.2))) s.small;
@@ -130,7 +132,7 @@ module _ {rules on : List ℕ} {n i j out x r left found : ℕ} (s : Searched ru
       more b l m p = record { rule = below_more _ r p.rule (h b ((s.passing.lane l).1 (m, p))) }
 
   -- it fails in j: the lanes that are left and in which it is on are decided
-  decides : {all : ℕ} → Fails rules r j → Lanes (λ b. (b ∈ found) ⊎ ((b ∈ left ∩ get_or on r 0) × Small rules on n i j out b)) all
+  decides : {all : ℕ} → Fails (rule_at rules r) j → Lanes (λ b. (b ∈ found) ⊎ ((b ∈ left ∩ get_or on r 0) × Small rules on n i j out b)) all
       → Searched rules on n i j out x (r + 1) (left ∖ (left ∩ get_or on r 0)) all
   decides f a = record {
     passing = lanes_iff (λ b l. (
@@ -151,14 +153,14 @@ module _ {rules on : List ℕ} {n i j out x r left found : ℕ} (s : Searched ru
     )) a;
   }
 
-  pub search_none : r < n → Fails rules r j → get_or rules (4 * r) 0 ∩ undecided i j out ≡ ∅ → Searched rules on n i j out x (r + 1) (left ∖ (left ∩ get_or on r 0)) found
+  pub search_none : r < n → Fails (rule_at rules r) j → (rule_at rules r).head ∩ undecided i j out ≡ ∅ → Searched rules on n i j out x (r + 1) (left ∖ (left ∩ get_or on r 0)) found
   search_none h f e =
       decides f (lanes_iff (λ b l. (
         inl,
         ⊎_elim (λ m. m) (λ u. absurd (small_none r h ((∈-∩ b left (get_or on r 0)).0 u.0).1 f e u.1)),
       )) lanes_self)
 
-  pub search_splits : {t a with without rest : ℕ} → Fails rules r j → OneOf t a → rest ≡ (left ∩ get_or on r 0) ∖ with
+  pub search_splits : {t a with without rest : ℕ} → Fails (rule_at rules r) j → OneOf t a → rest ≡ (left ∩ get_or on r 0) ∖ with
       → Lanes (λ b. (b ∈ left ∩ get_or on r 0) × Small rules on n i (j ∪ a) out b) with → Lanes (λ b. (b ∈ rest) × Small rules on n i j (out ∪ a) b) without
       → Searched rules on n i j out x (r + 1) (left ∖ (left ∩ get_or on r 0)) (found ∪ with ∪ without)
   search_splits {with = with} f o e p q =

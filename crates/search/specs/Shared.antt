@@ -5,6 +5,8 @@ use Rattle.sets.specs.Decides.{decided, dec_eq}
 use Rattle.sets.specs.Sets.{◌∈◌, ◌⊆◌, ◌∩◌, ◌∪◌}
 use Rattle.sets.specs.Members.{∈-∩, ∈-∪, ⊆_trans, ⊆_le, ∩_⊆_left, ⊆_∪_left, ⊆_∪_right}
 use Rattle.sets.specs.Parts.{⊆_parts}
+use Rattle.lanes.specs.declared.rule.Rule.{Rule}
+use Rattle.lanes.specs.Rules.{rule_at}
 use Rattle.lanes.specs.Lanes.{Lanes}
 use Rattle.lanes.specs.Cube.{InCube, cube_parts}
 use Rattle.lanes.specs.Planes.{◌in_plane◌, Plane}
@@ -15,17 +17,17 @@ abbrev pub server : (p g : ℕ) → ℕ
 server p g = 64 * (g / 64 ∩ p) + g % 64
 
 -- ---- the members that decide which of the first n rules are on
-pub record Relevant (rules : List ℕ) (n x : ℕ) : Type 0 where
-  pub rule : (r : ℕ) → r < n → (get_or rules (4 * r + 2) 0 ⊆ x) × (get_or rules (4 * r + 3) 0 ⊆ x)
+pub record Relevant (rules : List Rule) (n x : ℕ) : Type 0 where
+  pub rule : (r : ℕ) → r < n → ((rule_at rules r).misses ⊆ x) × ((rule_at rules r).holds ⊆ x)
 
-pub relevant_none : (rules : List ℕ) (x : ℕ) → Relevant rules 0 x
+pub relevant_none : (rules : List Rule) (x : ℕ) → Relevant rules 0 x
 relevant_none rules x = record { rule = λ r k. absurd (not-suc-le-zero k) }
 
-pub relevant_more : {rules : List ℕ} {n x : ℕ} → Relevant rules n x
-    → Relevant rules (n + 1) (x ∪ get_or rules (4 * n + 2) 0 ∪ get_or rules (4 * n + 3) 0)
+pub relevant_more : {rules : List Rule} {n x : ℕ} → Relevant rules n x
+    → Relevant rules (n + 1) (x ∪ (rule_at rules n).misses ∪ (rule_at rules n).holds)
 relevant_more {rules} {n} {x} q =
-    let z = get_or rules (4 * n + 2) 0 in
-    let o = get_or rules (4 * n + 3) 0 in record {
+    let z = (rule_at rules n).misses in
+    let o = (rule_at rules n).holds in record {
       rule = below_more _ n
           (λ r k. let (s, t) = q.rule r k in let up = ⊆_trans (⊆_∪_left x z) (⊆_∪_left (x ∪ z) o) in (⊆_trans s up, ⊆_trans t up))
           (⊆_trans (⊆_∪_right x z) (⊆_∪_left (x ∪ z) o), ⊆_∪_right (x ∪ z) o);
@@ -54,13 +56,13 @@ module _ (p w : ℕ) where
       (λ c. let (s, t) = x.0 c in y.1 (u.0 s, t), λ c. let (s, t) = y.0 c in x.1 (u.1 s, t))
 
 -- the rules say the same of two numbers for which the same are on
-stable-same : {rules : List ℕ} {n i g h : ℕ} → ((r : ℕ) → r < n → SwitchedOn rules r g ↔ SwitchedOn rules r h) → StableFor rules n i g → StableFor rules n i h
+stable-same : {rules : List Rule} {n i g h : ℕ} → ((r : ℕ) → r < n → SwitchedOn rules r g ↔ SwitchedOn rules r h) → StableFor rules n i g → StableFor rules n i h
 stable-same f t = record {
   model = record { rule = λ r k e o. t.model.rule r k e ((f r k).1 o) };
   minimal = λ j l m. t.minimal j l (λ r k o. m r k ((f r k).0 o));
 }
 
-pub stable-shared : {rules : List ℕ} {n x p : ℕ} → Relevant rules n x → p ≡ x / 64 → (i g : ℕ) → StableFor rules n i g ↔ StableFor rules n i (server p g)
+pub stable-shared : {rules : List Rule} {n x p : ℕ} → Relevant rules n x → p ≡ x / 64 → (i g : ℕ) → StableFor rules n i g ↔ StableFor rules n i (server p g)
 stable-shared {rules} {n} {x} {p} q e i g =
     let f = on in
     (stable-same f, stable-same (λ r k. ((f r k).1, (f r k).0)))
@@ -121,7 +123,7 @@ module _ (p w : ℕ) (active any : List ℕ) where
           (λ e. subst (λ z. g % 64 ∈ z) (sym (get_or-set_other cleared (w ∩ p) (g / 64 ∩ p) _ 0 e)) old) (decided (dec_eq (g / 64 ∩ p) (w ∩ p)))
 
 -- ---- of the numbers of the plane `active` i is stable for those whose servers are found
-pub found-shared : {rules active any stable : List ℕ} {n x p i : ℕ} → Relevant rules n x → p ≡ x / 64 → length stable ≡ length active → SharedUntil p (length active) active any
+pub found-shared : {rules : List Rule} {active any stable : List ℕ} {n x p i : ℕ} → Relevant rules n x → p ≡ x / 64 → length stable ≡ length active → SharedUntil p (length active) active any
     → Plane (λ g. (g in_plane any) × StableFor rules n i g) stable → (g : ℕ) → g < 64 * length active → g in_plane active → server p g in_plane stable ↔ StableFor rules n i g
 found-shared {p = p} {i = i} q e long s f g h m =
     let y = f.number {g = server p g} (omega (arith, ⊆_le (∩_⊆_left (g / 64) p))) in

@@ -4,12 +4,13 @@ use Rattle.std.proofs.Common.{⊎_elim}
 use Rattle.sets.specs.Decides.{decided}
 use Rattle.sets.specs.Sets.{◌∈◌, ◌∖◌, ∅, single}
 use Rattle.sets.specs.Members.{∈-∅, ∅-⊆, dec_∈, ∖-⊂}
+use Rattle.lanes.specs.declared.rule.Rule.{Rule}
 use Rattle.lanes.specs.Lanes.{Lanes, lanes_self, lanes_iff, lanes_minus}
 use Rattle.lanes.specs.Stable.{HeadsMeet, StableFor, LanesOn}
 use Rattle.search.specs.Smaller.{Small}
 use Rattle.search.specs.Supported.{Kept, less_passes}
 
-module _ (rules on : List ℕ) (n i w lanes : ℕ) {model : ℕ} (p : Lanes (λ b. (b ∈ lanes) × HeadsMeet rules n (64 * w + b)) model) where
+module _ (rules : List Rule) (on : List ℕ) (n i w lanes : ℕ) {model : ℕ} (p : Lanes (λ b. (b ∈ lanes) × HeadsMeet rules n (64 * w + b)) model) where
   module _ (s : LanesOn rules w model n on) {left : ℕ} (k : Kept rules on i n model left) where
     -- in a lane that is not left the set without one atom is a model of the rules that are on
     struck : {b : ℕ} → b < 64 → b ∈ model → (b ∈ left → ⊥) → StableFor rules n i (64 * w + b) → ⊥

@@ -16,6 +16,7 @@ ghost use Rattle.search.specs.Tried.{Tried};
 
 use lanes::cube::Patterns;
 use lanes::noted::Entry;
+use lanes::rule::Rule;
 use noted::note_words;
 use shared::{relevant, share};
 use stable::find_stable;
@@ -24,8 +25,7 @@ use stable::find_stable;
 // decides which rules are on share one computation. What `on` and `stable` hold then is left open.
 pub fn note_rules(
     patterns: &Patterns,
-    rules: &[u16],
-    n: usize,
+    rules: &[Rule],
     i: u16,
     needed: u16,
     on: &mut [u64],
@@ -33,15 +33,15 @@ pub fn note_rules(
     active: &mut [u64],
     table: &mut [Entry],
 )
-    requires { (4 * n ≤ length rules.now) × (n ≤ length on.old) × (length stable.old ≡ length active.old)
+    requires { (length rules.now ≤ length on.old) × (length stable.old ≡ length active.old)
         × (length active.old ≤ 1024) × (64 * length active.old ≤ length table.old)
         × ((g : ℕ) → g in_plane active.old → (entry_at table.old g).sets < 65535) }
     ensures on_len_unchanged { length on.new ≡ length on.old }
     ensures stable_len_unchanged { length stable.new ≡ length stable.old }
-    ensures tried { Tried (StableFor rules.now n i) i needed active.old table.old active.new table.new }
+    ensures tried { Tried (StableFor rules.now (length rules.now) i) i needed active.old table.old active.new table.new }
 {
-    let parting = (relevant(rules, n) / 64) as usize;
+    let parting = (relevant(rules) / 64) as usize;
     share(active, parting, stable);
-    find_stable(patterns, rules, n, i, on, stable);
+    find_stable(patterns, rules, i, on, stable);
     note_words(patterns, stable, parting, i, needed, active, table);
 }

@@ -1,15 +1,16 @@
 // Words of numbers that agree on what decides which rules are on are served by one of them: the word that has of their members those that matter.
-ghost use Rattle.std.specs.Prelude.{◌≡◌, ◌*◌, ◌≤◌, length};
+ghost use Rattle.std.specs.Prelude.{◌≡◌, length};
 ghost use Rattle.search.specs.Shared.{Relevant, SharedUntil};
 
+use lanes::rule::Rule;
+
 // The members that decide for which numbers the rules are on; perhaps others.
-pub fn relevant(rules: &[u16], n: usize) -> u16
-    requires { 4 * n ≤ length rules.now }
-    ensures { Relevant rules.now n result }
+pub fn relevant(rules: &[Rule]) -> u16
+    ensures { Relevant rules.now (length rules.now) result }
 {
     let mut all = 0;
-    for r in 0..n {
-        all = all | rules[4 * r + 2] | rules[4 * r + 3];
+    for &rule in rules {
+        all = all | rule.misses | rule.holds;
     }
     all
 }

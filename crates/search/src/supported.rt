@@ -1,64 +1,61 @@
 // The lanes in which each atom of a set has a rule that supports it. In the others the set without some atom is a model of the rules that are on.
-ghost use Rattle.std.specs.Prelude.{◌≡◌, ℕ, ◌+◌, ◌*◌, ◌≤◌, length};
+ghost use Rattle.std.specs.Prelude.{ℕ, ◌≤◌, length};
 ghost use Rattle.sets.specs.Sets.{◌∈◌};
 ghost use Rattle.search.specs.Supported.{Supports, Added, SupportedBy, Kept};
 
+use lanes::rule::Rule;
 use sets::{Set, power};
 
-// The atoms of i that rule r supports; perhaps others.
-fn supports(rules: &[u16], r: usize, i: u16) -> u16
-    requires { 4 * r + 4 ≤ length rules.now }
-    ensures { (a : ℕ) → a ∈ i → Supports rules.now i r a → a ∈ result }
+// The atoms of i that the rule supports; perhaps others.
+fn supports(rule: Rule, i: u16) -> u16
+    ensures { (a : ℕ) → a ∈ i → Supports rule i a → a ∈ result }
 {
-    let head = rules[4 * r] & i;
-    let plain = rules[4 * r + 1];
+    let head = rule.head & i;
     if head == 0 {
-        return i.minus(plain);
+        return i.minus(rule.plain);
     }
     if power(head.first() as u16) == head {
-        return head.minus(plain);
+        return head.minus(rule.plain);
     }
     0
 }
 
 // Adds the lanes to the words of these atoms.
-fn add(by: &mut [u64], atoms: u16, lanes: u64)
-    requires { 16 ≤ length by.old }
+fn add(by: &mut [u64; 16], atoms: u16, lanes: u64)
     ensures { Added atoms lanes by.old by.new }
 {
     let mut rest = atoms;
     while rest > 0 {
-        let a = rest.first();
-        by[a] = by[a] | lanes;
-        rest = rest & (rest - 1);
+        by[rest.first()] |= lanes;
+        rest &= rest - 1;
     }
 }
 
-// Adds to the words of the atoms of i the lanes in which a rule that supports them is on; perhaps others.
-fn support(rules: &[u16], n: usize, on: &[u64], i: u16, by: &mut [u64])
-    requires { (4 * n ≤ length rules.now) × (n ≤ length on.now) × (16 ≤ length by.old) }
-    ensures by_len_unchanged { length by.new ≡ length by.old }
-    ensures supported_by { SupportedBy rules.now on.now i n by.new }
+// By atom of i, the lanes in which a rule that supports it is on; perhaps others.
+fn support(rules: &[Rule], on: &[u64], i: u16) -> [u64; 16]
+    requires { length rules.now ≤ length on.now }
+    ensures { SupportedBy rules.now on.now i (length rules.now) result }
 {
-    for r in 0..n {
+    let mut by = [0u64; 16];
+    for r in 0..rules.len() {
         if on[r] != 0 {
-            add(by, supports(rules, r, i), on[r]);
+            add(&mut by, supports(rules[r], i), on[r]);
         }
     }
+    by
 }
 
 // The lanes, of these, in which each atom of i has a rule that is on and supports it; perhaps others too.
-pub fn supported(rules: &[u16], n: usize, on: &[u64], i: u16, lanes: u64) -> u64
-    requires { (4 * n ≤ length rules.now) × (n ≤ length on.now) }
-    ensures { Kept rules.now on.now i n lanes result }
+pub fn supported(rules: &[Rule], on: &[u64], i: u16, lanes: u64) -> u64
+    requires { length rules.now ≤ length on.now }
+    ensures { Kept rules.now on.now i (length rules.now) lanes result }
 {
-    let mut by = [0u64; 16];
-    support(rules, n, on, i, &mut by[..]);
+    let by = support(rules, on, i);
     let mut left = lanes;
     let mut rest = i;
     while rest > 0 {
-        left = left & by[rest.first()];
-        rest = rest & (rest - 1);
+        left &= by[rest.first()];
+        rest &= rest - 1;
     }
     left
 }

@@ -17,6 +17,7 @@ use guess::negations::found;
 use guess::outline::Outline;
 use lanes::cube::Patterns;
 use lanes::noted::Entry;
+use lanes::rule::Rule;
 use search::note_rules;
 use sets::{Set, full, power};
 
@@ -41,14 +42,14 @@ fn note_set(
     x: Outline,
     digests: &[Digest],
     i: u16,
-    room: &mut [u16],
+    room: &mut [Rule],
     on: &mut [u64],
     stable: &mut [u64],
     active: &mut [u64],
     table: &mut [Entry],
 )
     requires table { Outlines x words.now × Digested x words.now digests.now × (i < 2 ^ x.atoms) }
-    requires rules_in_bounds { (4 * x.rules ≤ length room.old) × (x.rules ≤ length on.old) × (length stable.old ≡ length active.old) × (length active.old ≤ 1024) }
+    requires rules_in_bounds { (x.rules ≤ length room.old) × (x.rules ≤ length on.old) × (length stable.old ≡ length active.old) × (length active.old ≤ 1024) }
     requires active_in_bounds { (64 * length active.old ≤ length table.old) × ((g : ℕ) → g in_plane active.old → (entry_at table.old g).sets < 65535) }
     ensures room_len_unchanged { (length room.new ≡ length room.old) × (length on.new ≡ length on.old) × (length stable.new ≡ length stable.old) }
     ensures tried { Tried (StableBy (at_set x words.now i) i) i (need (unmasked_in x words.now) i) active.old table.old active.new table.new }
@@ -57,7 +58,7 @@ fn note_set(
     let Some(n) = gather(words, x, digests, i, needed, &mut room[..]) else {
         return;
     };
-    note_rules(patterns, &room[..], n, i, needed, on, stable, active, table);
+    note_rules(patterns, &room[..n], i, needed, on, stable, active, table);
 }
 
 // All candidates, for the guesses of the plane `active`: no guess makes another set stable. `stable` is room to work in.
@@ -72,7 +73,7 @@ pub fn fill(words: &[u16], x: Outline, stable: &mut [u64], active: &mut [u64], t
     let digests = &all[..x.rules];
     clear(&mut table[..], 64 * active.len(), x.atoms);
     let end = power(x.atoms as u16);
-    let mut room = [0u16; 284];
+    let mut room = [Rule::default(); 71];
     let mut on = [0u64; 71];
     let mut sets = 0;
     for i in 0..end {

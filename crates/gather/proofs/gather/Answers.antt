@@ -29,9 +29,8 @@ loop-r-preserved c =
     let answer = gathers_is a.x a.words.now a.i c.requires.1 c.requires.2 h c.switches.ensures in
     elim c.if-switches.branch [
       | then-switches+else-e-eq0 w ↦
-          let put = w.put.ensures in
           let is = rule_is a.x a.words.now a.i c.requires.1 c.requires.2 h w.at_set-e.ensures in (
-            rw (w.room-is, w.n-is) (written a.x a.words.now a.i l.invariant.0 put.room_unchanged answer w.if-switches.true is put.n_after),
+            rw (w.room-is, w.n-is) (written a.x a.words.now a.i l.invariant.0 (omega (arith, l.invariant.0.few, c.requires.1.stand, c.requires.3)) answer w.if-switches.true is),
             rw w.atoms-is (held_more a.x a.words.now a.i l.invariant.1 answer w.if-switches.true is w.supported-atoms.ensures),
           )
       | else-switches w ↦ (

@@ -7,8 +7,8 @@ use Rattle.search.proofs.note_rules.Goals as goal
 pub note_words-requires : goal.note_words-requires
 note_words-requires c =
     let pre = c.requires in
-    let long = c.find_stable.ensures.plane_len_unchanged ∙ c.share.ensures.any_len_unchanged ∙ pre.2 in
-    (long, pre.3, pre.4, pre.5)
+    let long = c.find_stable.ensures.plane_len_unchanged ∙ c.share.ensures.any_len_unchanged ∙ pre.1 in
+    (long, pre.2, pre.3, pre.4)
 
 pub returns : goal.returns
 returns c =
@@ -20,5 +20,5 @@ returns c =
     record {
       on_len_unchanged = found.on_len_unchanged;
       stable_len_unchanged = long;
-      tried = tried_iff (found-shared all refl (long ∙ pre.2) any.shared_until found.plane) c.note_words.ensures;
+      tried = tried_iff (found-shared all refl (long ∙ pre.1) any.shared_until found.plane) c.note_words.ensures;
     }

@@ -16,8 +16,8 @@ smaller-with-requires t c =
     let a = c.args in
     let p = c.requires in
     let o = MatchOption-at_some _ _ _ c.in-Some.is (rw c.minus-undecided.ensures at c.choose.ensures) in
-    let u = into-j a.i a.j a.out _ o p.2 p.3 in
-    (subst (λ z. size (undecided a.i (a.j ∪ c.in-Some.a) a.out) < z) c.decreases u.0, (p.0, p.1, u.1, u.2))
+    let u = into-j a.i a.j a.out _ o p.1 p.2 in
+    (subst (λ z. size (undecided a.i (a.j ∪ c.in-Some.a) a.out) < z) c.decreases u.0, (p.0, u.1, u.2))
 
 pub smaller-without-requires : goal.smaller-without-requires
 smaller-without-requires t c =
@@ -25,8 +25,8 @@ smaller-without-requires t c =
     let a = c.args in
     let p = c.requires in
     let o = MatchOption-at_some _ _ _ c.in-Some.is (rw c.minus-undecided.ensures at c.choose.ensures) in
-    let u = into-out a.i a.j a.out _ o p.3 in
-    (subst (λ z. size (undecided a.i a.j (a.out ∪ c.in-Some.a)) < z) c.decreases u.0, (p.0, p.1, p.2, u.1))
+    let u = into-out a.i a.j a.out _ o p.2 in
+    (subst (λ z. size (undecided a.i a.j (a.out ∪ c.in-Some.a)) < z) c.decreases u.0, (p.0, p.1, u.1))
 
 pub loop-r-preserved : goal.loop-r-preserved
 loop-r-preserved t c =
@@ -48,4 +48,4 @@ loop-r-preserved t c =
 pub returns : goal.returns
 returns t c =
     let p = c.requires in
-    search_ends c.loop-r.invariant.1 (omega arith) (record { within = p.2; differ = c.if-j-i.false }) p.3
+    search_ends c.loop-r.invariant.1 (omega arith) (record { within = p.1; differ = c.if-j-i.false }) p.2

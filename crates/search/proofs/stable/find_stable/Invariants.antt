@@ -7,4 +7,4 @@ use Rattle.search.proofs.stable.find_stable.Given as goal
 
 abbrev pub invariant-loop-w : goal.invariant-loop-w
 invariant-loop-w l = (length l.on ≡ length l.initial.on) × (length l.plane ≡ length l.initial.plane)
-    × Until (λ g. g in_plane l.initial.plane) (λ g. (g in_plane l.initial.plane) × StableFor l.rules l.n l.i g) l.w l.plane
+    × Until (λ g. g in_plane l.initial.plane) (λ g. (g in_plane l.initial.plane) × StableFor l.rules (length l.rules) l.i g) l.w l.plane

@@ -8,12 +8,6 @@ use Rattle.search.proofs.supported.add.Goals as goal
 pub loop-rest-init : goal.loop-rest-init
 loop-rest-init c = let a = c.args in (⊆_refl, added_first a.atoms a.lanes a.by.now)
 
-pub bounds-by-a : goal.bounds-by-a
-bounds-by-a c = omega (arith, c.loop-rest.invariant.1.long, c.first-a.ensures.1)
-
-pub bounds-by-a-in-loop-rest : goal.bounds-by-a-in-loop-rest
-bounds-by-a-in-loop-rest c = omega (arith, c.loop-rest.invariant.1.long, c.first-a.ensures.1)
-
 pub loop-rest-smaller : goal.loop-rest-smaller
 loop-rest-smaller c = let r = c.loop-rest.rest in omega (arith, ⊆_le (∩-⊆ r (r - 1)))
 
@@ -21,8 +15,8 @@ pub loop-rest-preserved : goal.loop-rest-preserved
 loop-rest-preserved c =
     let a = c.args in
     let l = c.loop-rest in
-    let f = c.first-a.ensures in
-    (⊆_trans (∩_⊆_left l.rest _) l.invariant.0, added_next a.atoms a.lanes a.by.now f.0 (omega (arith, l.invariant.1.long, f.1)) l.invariant.0 l.invariant.1)
+    let f = c.first.ensures in
+    (⊆_trans (∩_⊆_left l.rest _) l.invariant.0, added_next a.atoms a.lanes a.by.now f.0 (omega (arith, f.1)) l.invariant.0 l.invariant.1)
 
 pub returns : goal.returns
 returns c = let a = c.args in added_last a.atoms a.lanes a.by.now (omega arith) c.loop-rest.invariant.1

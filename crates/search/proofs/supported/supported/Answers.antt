@@ -1,6 +1,7 @@
 -- `search::supported::supported` meets its contract. Assumes nothing.
 use Prim.Native.Nat.{◌-◌}
 use native.Mathlib.Omega.{arith}
+use lib.ListN.{length}
 use Rattle.sets.specs.Members.{⊆_refl, ⊆_trans, ⊆_le, ∩-⊆, ∩_⊆_left}
 use Rattle.search.specs.Supported.{kept_all, kept_more}
 use Rattle.search.proofs.supported.supported.Goals as goal
@@ -8,7 +9,7 @@ use Rattle.search.proofs.supported.supported.Goals as goal
 pub loop-rest-init : goal.loop-rest-init
 loop-rest-init c =
     let a = c.args in
-    (⊆_refl, c.support.ensures.supported_by, kept_all a.rules.now a.on.now a.i a.n a.lanes)
+    (⊆_refl, c.support-by.ensures, kept_all a.rules.now a.on.now a.i (length a.rules.now) a.lanes)
 
 pub loop-rest-smaller : goal.loop-rest-smaller
 loop-rest-smaller c = let r = c.loop-rest.rest in omega (arith, ⊆_le (∩-⊆ r (r - 1)))

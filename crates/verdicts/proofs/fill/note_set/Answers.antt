@@ -1,6 +1,7 @@
 -- `verdicts::fill::note_set` meets its contract. Assumes nothing.
 use mathlib.Core.Path.{refl, ◌∙◌}
 use native.Mathlib.Omega.{arith}
+use lib.Seq.{length-take-le}
 use Rattle.search.specs.Tried.{tried_iff, tried_none}
 use Rattle.guess.specs.Numbered.{few_of}
 use Rattle.verdicts.proofs.Sets.{need_is, stable-at, none-stable, some-rules}
@@ -33,7 +34,8 @@ note_rules-requires c =
     let room = g.new.room in
     let is = c.in-Some.is in
     let some = some-rules a.x a.words.now a.i room g.result g.ensures.gathered_at is in
-    (omega (arith, some.0, g.ensures.room_len_unchanged, q.0), omega (arith, some.0, q.1), q.2, q.3, r.0, r.1)
+    let n = c.in-Some.n in
+    (omega (arith, length-take-le n room (omega (arith, some.0, g.ensures.room_len_unchanged, q.0)), some.0, q.1), q.2, q.3, r.0, r.1)
 
 pub returns : goal.returns
 returns c =
@@ -45,5 +47,5 @@ returns c =
     let needed = c.found-needed.ensures ∙ need_is o a.i c.requires.table.2 in
     record {
       room_len_unchanged = (g.ensures.room_len_unchanged, n.on_len_unchanged, n.stable_len_unchanged);
-      tried = tried_iff (λ h _ _. stable-at a.i h some.1) (rw needed at n.tried);
+      tried = tried_iff (λ h _ _. stable-at g.new.room a.i h (omega (arith, some.0, g.ensures.room_len_unchanged, c.requires.rules_in_bounds.0)) some.1) (rw needed at n.tried);
     }
