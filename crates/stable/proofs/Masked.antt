@@ -8,11 +8,7 @@ use Rattle.semantics.specs.Definitions.Stable.{stable}
 use Rattle.semantics.specs.Definitions.Day.{allowed, stable_under}
 
 module _ (ins outs i : ℕ) (p : List Rule) where
-  -- it lacks an in-atom or has an out-atom
-  pub not_allowed : allowed ins outs i ≡ false → false ≡ stable_under ins outs p i
-  not_allowed e = rw e
-
-  -- otherwise it passes where it is stable
+  -- an allowed set passes where it is stable
   pub if_allowed : allowed ins outs i ≡ true → {b : Bool} → b ≡ stable p i → b ≡ stable_under ins outs p i
   if_allowed e d = rw e d
 

@@ -1,20 +1,24 @@
 // The nogoods kept from one test to the next.
 ghost use Rattle.std.specs.Prelude.{◌<◌};
+ghost use Rattle.stable.specs.declared.kept.TheConstants.{KEPT};
 
 use super::nogood::Nogood;
+
+// How many are kept.
+pub const KEPT: usize = 16;
 
 // Nogoods, the number of the one to be asked first, and that of the oldest.
 #[derive(Clone, Copy)]
 pub struct Nogoods {
-    kept: [Nogood; 16],
+    kept: [Nogood; KEPT],
     first: usize,
     oldest: usize,
-    ghost first_kept: { first < 16 },
-    ghost oldest_kept: { oldest < 16 },
+    ghost first_kept: { first < KEPT },
+    ghost oldest_kept: { oldest < KEPT },
 }
 
 impl Nogoods {
-    ghost use Rattle.std.specs.Prelude.{◌≡◌, true, false, List, ℕ, ◌<◌, IfSome, slice_index_or};
+    ghost use Rattle.std.specs.Prelude.{◌≡◌, true, false, List, ℕ, ◌<◌, IfSome, replicate, slice_index_or};
     ghost use Rattle.semantics.specs.Definitions.Rules.{Rule};
     ghost use Rattle.semantics.specs.Definitions.Day.{allowed, stable_under};
     ghost use Rattle.stable.specs.Nogoods.{Excludes};
@@ -22,10 +26,10 @@ impl Nogoods {
 
     // The same nogood in every place.
     pub fn new(nogood: Nogood) -> Nogoods
-        ensures { (ins outs : ℕ) (p : List Rule) → Excludes ins outs p nogood.has nogood.lacks → NogoodsHold ins outs p result }
+        ensures { result.kept ≡ replicate KEPT nogood }
     {
         Nogoods {
-            kept: [nogood; 16],
+            kept: [nogood; KEPT],
             first: 0,
             oldest: 0,
         }
@@ -33,7 +37,7 @@ impl Nogoods {
 
     // The number of a nogood that excludes i, if any: the one to be asked first, or else the first of all.
     fn excluded_by(&self, i: u16) -> Option<usize>
-        ensures { IfSome result (λ k. (k < 16) × (allowed (slice_index_or self.now.kept k (record { has = 0; lacks = 0 })).has (slice_index_or self.now.kept k (record { has = 0; lacks = 0 })).lacks i ≡ true)) }
+        ensures { IfSome result (λ k. let r = slice_index_or self.now.kept k (record { has = 0; lacks = 0 }) in (k < KEPT) × (allowed r.has r.lacks i ≡ true)) }
     {
         if self.kept[self.first].excludes(i) {
             return Some(self.first);
@@ -62,6 +66,6 @@ impl Nogoods {
         let place = self.oldest;
         self.kept[place] = nogood;
         self.first = place;
-        self.oldest = (place + 1) % 16;
+        self.oldest = (place + 1) % KEPT;
     }
 }

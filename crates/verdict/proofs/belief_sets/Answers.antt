@@ -12,14 +12,7 @@ use Rattle.semantics.proofs.Theorems.Stable.{belief_sets_few}
 use Rattle.guess.specs.Settings.{setting_by}
 use Rattle.guess.specs.Numbered.{few_sets}
 use Rattle.verdict.specs.Over.{over_long, over_first}
-use borrow.Author.Rules.{rules}
 use Rattle.verdict.proofs.belief_sets.Goals as goal
-
-pub gather-y-requires : goal.gather-y-requires
-gather-y-requires c = (search rules, c.reduct-rules.ensures.upper_bound, c.requires.0.few_atoms)
-
-pub shape_of-out : goal.shape_of-out
-shape_of-out c = ap length c.gather-y.ensures.out_after ∙ over_long _ _
 
 pub returns : goal.returns
 unfolding belief_sets

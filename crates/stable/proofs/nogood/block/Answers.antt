@@ -15,17 +15,11 @@ returns-then-meets-inside c =
     idle (rule_in a.program.now a.j) a.i a.s a.r.has a.r.lacks
     (first_test a.program.now a.j c.minus-u.ensures c.meets-inside.ensures c.meets.ensures ∙ c.if-meets-inside.true)
 
-pub highest-requires : goal.highest-requires
-highest-requires c = omega (arith, c.if-missing-ne0.true)
-
 pub returns-then-missing-ne0 : goal.returns-then-missing-ne0
 returns-then-missing-ne0 c =
     let a = c.args in
     asks (rule_in a.program.now a.j) a.i a.s a.r.has a.r.lacks
     (subst (λ z. OneOf z c.highest.result) c.minus-missing.ensures c.highest.ensures)
-
-pub highest-requires-then-forbidden-ne0 : goal.highest-requires-then-forbidden-ne0
-highest-requires-then-forbidden-ne0 c = omega (arith, c.if-forbidden-ne0.true)
 
 pub returns-then-forbidden-ne0 : goal.returns-then-forbidden-ne0
 returns-then-forbidden-ne0 c =

@@ -1,23 +1,13 @@
 -- `stable::nogood::by_masks` meets its contract. Assumes nothing.
-use mathlib.Core.Path.{sym, subst, ◌∙◌}
-use native.Mathlib.Omega.{arith}
+use mathlib.Core.Path.{subst}
 use Rattle.sets.specs.One.{OneOf}
 use Rattle.stable.specs.Nogoods.{in_excludes, out_excludes}
-use Rattle.stable.proofs.Excluding.{out_atom}
 use Rattle.stable.proofs.nogood.by_masks.Goals as goal
-
-pub highest-requires : goal.highest-requires
-highest-requires c = omega (arith, c.if-missing-ne0.true)
 
 pub returns-then-missing-ne0 : goal.returns-then-missing-ne0
 returns-then-missing-ne0 c =
     let a = c.args in
     λ p. in_excludes a.ins a.outs p a.i (subst (λ z. OneOf z c.highest.result) c.minus-missing.ensures c.highest.ensures)
-
-pub highest-requires-2 : goal.highest-requires-2
-highest-requires-2 c =
-    let a = c.args in
-    out_atom a.ins a.outs a.i c.requires (sym c.minus-missing.ensures ∙ c.if-missing-ne0.false)
 
 pub returns : goal.returns
 returns c =

@@ -1,19 +1,13 @@
 -- `stable::nogood::by_smaller` meets its contract: the rules passed are blocked. Assumes nothing.
-use mathlib.Core.Path.{sym, subst}
 use native.Mathlib.Omega.{arith}
-use borrow.Author.Count.{below_none, below_more}
-use Rattle.sets.specs.Sets.{◌⊆◌, ◌∖◌}
-use Rattle.sets.specs.Members.{⊆_refl, ⊆_trans}
+use borrow.Author.Count.{below_more}
+use Rattle.sets.specs.Sets.{◌∖◌}
+use Rattle.sets.specs.Members.{⊆_trans}
 use Rattle.semantics.specs.Words.{rule_in, program_in}
 use Rattle.stable.specs.Search.{applied_model}
 use Rattle.stable.specs.Nogoods.{Blocked, unfounded_excludes}
 use Rattle.stable.proofs.Excluding.{blocked_more, beyond, each-rule, among-program}
 use Rattle.stable.proofs.nogood.by_smaller.Goals as goal
-
-pub loop-j-init : goal.loop-j-init
-loop-j-init c =
-    let a = c.args in
-    (omega arith, subst (λ z. a.i ∖ a.s ⊆ z) (sym c.minus.ensures) ⊆_refl, below_none _)
 
 pub block-r-requires : goal.block-r-requires
 block-r-requires c =

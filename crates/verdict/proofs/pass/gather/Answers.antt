@@ -3,7 +3,6 @@ use Prim.Native.Nat.{ℕ, ◌^◌}
 use mathlib.Core.Path.{◌≡◌, refl, sym, ap, ◌∙◌}
 use mathlib.Core.List.{◌++◌}
 use native.Mathlib.Omega.{arith}
-use lib.ListN.{length}
 use Rattle.sets.specs.Lists.{up_to}
 use Rattle.semantics.specs.Words.{program_in}
 use Rattle.semantics.specs.Definitions.Stable.{stable_sets}
@@ -11,8 +10,7 @@ use Rattle.semantics.specs.Definitions.Pass.{having, pass_over, one_pass}
 use Rattle.semantics.specs.Definitions.Day.{day_constraints}
 use Rattle.semantics.proofs.Theorems.Pass.{one_pass_lem}
 use Rattle.semantics.proofs.Theorems.Day.{stable-under}
-use Rattle.stable.specs.Nogoods.{none_excluded}
-use Rattle.verdict.specs.Over.{over_long}
+use Rattle.stable.specs.Kept.{none_yet}
 use Rattle.verdict.proofs.Passing.{written_to, gathered_none, written_none, gathers, writes, passes_over}
 use borrow.Author.Rules.{rules}
 use Rattle.verdict.proofs.pass.gather.Goals as goal
@@ -26,15 +24,7 @@ pub loop-i-init : goal.loop-i-init
 loop-i-init c =
     let a = c.args in
     let p = program_in a.program.now a.rules ++ day_constraints a.ins a.outs in
-    (omega arith, omega arith, omega arith, gathered_none a.atoms p c.full-known.ensures, written_none a.atoms p a.out.now, search rules, c.new-nogoods.ensures a.ins a.outs (program_in a.program.now a.rules) (none_excluded a.ins a.outs (program_in a.program.now a.rules)))
-
-pub test_set-requires : goal.test_set-requires
-test_set-requires c =
-    let l = c.loop-i in
-    record {
-      rules_in_bounds = (c.requires.0, omega (arith, l.invariant.5, c.requires.1));
-      nogoods = l.invariant.6;
-    }
+    (omega arith, omega arith, omega arith, gathered_none a.atoms p c.full-known.ensures, written_none a.atoms p a.out.now, search rules, none_yet a.ins a.outs (program_in a.program.now a.rules) c.new-nogoods.result c.new-nogoods.ensures)
 
 pub loop-i-preserved : goal.loop-i-preserved
 loop-i-preserved c =
@@ -66,9 +56,6 @@ loop-i-preserved c =
             t.ensures.nogoods_2,
           )
     ]
-
-pub shape_of-out : goal.shape_of-out
-shape_of-out c = ap length c.loop-i.invariant.4 ∙ over_long _ _
 
 pub returns : goal.returns
 unfolding one_pass stable_sets
