@@ -1,7 +1,7 @@
 // The six counts of a listing.
 
 // How many guesses count as what.
-#[derive(Clone, Copy, Debug, PartialEq, Eq)]
+#[derive(Clone, Copy, Debug, Default, PartialEq, Eq)]
 pub struct Tally {
     pub views: usize,
     pub covered: usize,

@@ -14,6 +14,15 @@ use lanes::plane::holds;
 use records::View;
 use records::outcome::Outcome;
 
+// The verdicts on all guesses: the plane of those that are not contradicted, the plane of those of them that have what each of their belief sets
+// needs, and the entries of these.
+#[derive(Clone, Copy)]
+pub struct Verdicts<'a> {
+    pub free: &'a [u64],
+    pub active: &'a [u64],
+    pub table: &'a [Entry],
+}
+
 // By what is known and possible in its belief sets, and how many they are.
 fn by_entry(x: Outline, guess: u16, entry: Entry) -> Outcome
     requires { Few x }
@@ -34,23 +43,17 @@ fn by_entry(x: Outline, guess: u16, entry: Entry) -> Outcome
 }
 
 // A guess that no view met covers: ruled where it is contradicted; other where it lacks what one of its belief sets needs; else by its entry.
-pub fn examine(
-    words: &[u16],
-    x: Outline,
-    free: &[u64],
-    active: &[u64],
-    table: &[Entry],
-    guess: u16,
-) -> Outcome
-    requires { Outlines x words.now × (guess < 2 ^ x.negations) × Tabled x words.now free.now active.now table.now }
+pub fn examine(words: &[u16], x: Outline, verdicts: Verdicts, guess: u16) -> Outcome
+    requires { Outlines x words.now × (guess < 2 ^ x.negations) × Tabled x words.now verdicts.free.now verdicts.active.now verdicts.table.now }
     ensures { ExaminedAs (setting_in x words.now) guess (outcome_from result) }
 {
     let g = guess as usize;
-    if !holds(free, g) {
+    if !holds(verdicts.free, g) {
         return Outcome::Ruled;
     }
-    if !holds(active, g) {
+    if !holds(verdicts.active, g) {
         return Outcome::Other;
     }
+    let table = verdicts.table;
     by_entry(x, guess, table[g])
 }

@@ -23,7 +23,7 @@ use sets::power;
 
 // How many entries of the order are passed, and the six counts; and where the next guess is known to be one that is tested, how many rules its
 // reduct has.
-#[derive(Clone, Copy)]
+#[derive(Clone, Copy, Debug, PartialEq, Eq)]
 pub struct Paused {
     pub at: usize,
     pub tally: Tally,
@@ -37,14 +37,7 @@ impl Paused {
     {
         Paused {
             at: 0,
-            tally: Tally {
-                views: 0,
-                covered: 0,
-                ruled: 0,
-                tested: 0,
-                empty: 0,
-                other: 0,
-            },
+            tally: Tally::default(),
             waiting: None,
         }
     }

@@ -9,6 +9,7 @@ ghost use Rattle.guess.specs.Programs.{setting_in, Outlines};
 ghost use Rattle.listing.specs.Walks.{walked_in};
 ghost use Rattle.listing.specs.Pauses.{waits, Along};
 
+use super::entries::Verdicts;
 use super::paused::Paused;
 use super::rest::rest;
 use answers::Tally;
@@ -28,57 +29,10 @@ fn plane_words(negations: usize) -> usize
     power((negations - 6) as u16) as usize
 }
 
-// From entry `at` on, in planes and a table that are lent.
-fn finish_in(
-    words: &[u16],
-    x: Outline,
-    order: &[u16],
-    at: usize,
-    tally: Tally,
-    free: &mut [u64],
-    stable: &mut [u64],
-    active: &mut [u64],
-    table: &mut [Entry],
-    records: &mut [u16],
-) -> Tally
+// From where the listing stands on, by the verdicts on all guesses.
+fn finish(words: &[u16], x: Outline, order: &[u16], begun: Paused, records: &mut [u16]) -> Tally
     requires outlines { Outlines x words.now × Enumerates x.negations (members_below x.negations order.now) }
-    requires free_len_bound { (length free.old ≤ 64) × (length stable.old ≡ length free.old) × (length active.old ≡ length free.old) × (2 ^ x.negations ≤ 64 * length free.old) × (64 * length free.old ≤ length table.old) }
-    requires records_room_in_bounds { (4 * records_room ≤ length records.old) × (at ≤ length order.now) × (walked_in tally records.old ≡ walk (setting_in x words.now) (members_below x.negations (take at order.now))) }
-    ensures records_len_unchanged { length records.new ≡ length records.old }
-    ensures records_after { walked_in result records.new ≡ walk (setting_in x words.now) (members_below x.negations (take (length order.now) order.now)) }
-{
-    judge_all(
-        words,
-        x,
-        &mut free[..],
-        &mut stable[..],
-        &mut active[..],
-        &mut table[..],
-    );
-    rest(
-        words,
-        x,
-        order,
-        at,
-        tally,
-        &free[..],
-        &active[..],
-        &table[..],
-        &mut records[..],
-    )
-}
-
-// From entry `at` on.
-fn finish(
-    words: &[u16],
-    x: Outline,
-    order: &[u16],
-    at: usize,
-    tally: Tally,
-    records: &mut [u16],
-) -> Tally
-    requires outlines { Outlines x words.now × Enumerates x.negations (members_below x.negations order.now) }
-    requires records_room_in_bounds { (4 * records_room ≤ length records.old) × (at ≤ length order.now) × (walked_in tally records.old ≡ walk (setting_in x words.now) (members_below x.negations (take at order.now))) }
+    requires records_room_in_bounds { (4 * records_room ≤ length records.old) × (begun.at ≤ length order.now) × (walked_in begun.tally records.old ≡ walk (setting_in x words.now) (members_below x.negations (take begun.at order.now))) }
     ensures records_len_unchanged { length records.new ≡ length records.old }
     ensures records_after { walked_in result records.new ≡ walk (setting_in x words.now) (members_below x.negations (take (length order.now) order.now)) }
 {
@@ -87,18 +41,20 @@ fn finish(
     let mut stable = [0u64; 64];
     let mut active = [0u64; 64];
     let mut table = [Entry::default(); 4096];
-    finish_in(
+    judge_all(
         words,
         x,
-        order,
-        at,
-        tally,
         &mut free[..n],
         &mut stable[..n],
         &mut active[..n],
         &mut table[..],
-        &mut records[..],
-    )
+    );
+    let verdicts = Verdicts {
+        free: &free[..n],
+        active: &active[..n],
+        table: &table[..],
+    };
+    rest(words, x, order, begun, verdicts, &mut records[..])
 }
 
 // From the first guess to the last: where the first test leaves no guess that waits for one, the verdicts on all guesses are not asked for.
@@ -120,7 +76,7 @@ pub fn whole(
     if first.waiting.is_none() {
         return first;
     }
-    let tally = finish(words, x, order, first.at, first.tally, &mut records[..]);
+    let tally = finish(words, x, order, first, &mut records[..]);
     Paused {
         at: order.len(),
         tally,

@@ -15,7 +15,7 @@ ghost use Rattle.records.specs.Records.{view_from, view_in, views_in, LargerFirs
 use sets::{size, subset};
 
 // A world view: its guess, what is known and possible in it, and its number of belief sets.
-#[derive(Clone, Copy)]
+#[derive(Clone, Copy, Debug, PartialEq, Eq)]
 pub struct View {
     pub guess: u16,
     pub known: u16,

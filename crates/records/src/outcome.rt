@@ -17,7 +17,7 @@ use guess::outline::Outline;
 use verdict::{Verdict, judge};
 
 // What a guess counts as: covered, ruled, or tested and then by its verdict.
-#[derive(Clone, Copy)]
+#[derive(Clone, Copy, Debug, PartialEq, Eq)]
 pub enum Outcome {
     Covered,
     Ruled,
