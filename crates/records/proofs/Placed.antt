@@ -1,14 +1,17 @@
 -- Records in words: one written into its own part of a buffer, and the views that then stand there. Assumes nothing.
 use Prim.Native.Nat.{ℕ, suc, ◌+◌, ◌*◌, ◌-◌, ◌≤◌, ◌<◌}
-use mathlib.Core.Path.{◌≡◌, refl, sym, ap, ap₂, ◌∙◌}
-use mathlib.Core.Bool.{Bool, true}
+use mathlib.Core.Path.{◌≡◌, refl, sym, ap, ap₂, subst, ◌∙◌}
+use mathlib.Core.Bool.{Bool, true, false, true≢false}
 use mathlib.Core.List.{List, [], ◌∷◌, ◌++◌, append-nil, append_assoc}
 use native.Mathlib.Nat.{not-suc-le-zero}
 use native.Mathlib.Numerals.{add-one}
 use native.Mathlib.Omega.{arith}
 use lib.ListN.{length, get_or, set, take, drop, length-append, length-drop, get_or-append, drop_of_length-le}
 use lib.Seq.{length-take-le, take_all, take_at, drop-append-add, get_or-append-add, get_or-take, drop-drop}
-use Rattle.sets.specs.Decides.{Decides, dec_iff, dec_self}
+use Rattle.std.specs.Bool.{MatchBool}
+use Rattle.std.specs.List.{AllWithin, HoldsAt, range_with_len}
+use Rattle.std.proofs.lemmas.List.FromFn.{get_or-range_with_len, length-range_with_len}
+use Rattle.sets.specs.Decides.{Decides, is_true, is_false, dec_iff, dec_self}
 use Rattle.sets.specs.Lists.{every, some, flat, flat_snoc, up_to, map_up_to_suc, map_up_to_same, among-map, among-up_to, dec_every, dec_some}
 use Rattle.sets.specs.Sets.{◌⊂?◌}
 use Rattle.semantics.specs.Definitions.Returned.{written}
@@ -123,3 +126,18 @@ dec_covers ws n g =
           let (i, k, e) = (among-map (view_in ws) (up_to n)).0 m in (i, (among-up_to n).0 k, ap (λ z. g ⊂? z.guess) (sym e) ∙ t),
       λ p. let (i, l, t) = p in (view_in ws i, (among-map (view_in ws) (up_to n)).1 (i, (among-up_to n).1 l, refl), t),
     ) (dec_some (λ v. g ⊂? v.guess) (λ v. (g ⊂? v.guess) ≡ true) (views_in ws n) (λ v _. dec_self (g ⊂? v.guess)))
+
+number_at : (n i : ℕ) → i < n → get_or (range_with_len 0 n) i 0 ≡ i
+number_at n i l = get_or-range_with_len 0 n i 0 l ∙ omega arith
+
+-- the same of a test of the numbers below n: what it found, one after another
+pub every_by_numbers : (f : View → Bool) (ws : List ℕ) (n : ℕ) (r : Bool)
+    → MatchBool r (AllWithin (λ j. f (view_in ws j) ≡ true) (range_with_len 0 n) 0 (length (range_with_len 0 n)))
+    ((k : ℕ) × (k < length (range_with_len 0 n)) × HoldsAt (λ j. f (view_in ws j) ≡ false) (range_with_len 0 n) k)
+    → r ≡ every f (views_in ws n)
+every_by_numbers f ws n true h =
+    sym (is_true (dec_views f ws n)
+    (λ i l. subst (λ j. f (view_in ws j) ≡ true) (number_at n i l) (h i 0 (omega arith) (omega (arith, l, length-range_with_len 0 n)))))
+every_by_numbers f ws n false (k, l, h) =
+    let inside : k < n = omega (arith, l, length-range_with_len 0 n) in
+    sym (is_false (dec_views f ws n) (λ all. true≢false (sym (all k inside) ∙ subst (λ j. f (view_in ws j) ≡ false) (number_at n k inside) (h 0))))

@@ -11,12 +11,7 @@ pub fn known_in_all(records: &[u16], n: usize, atom: u16) -> bool
     requires { (4 * n ≤ length records.now) × (atom < 16) }
     ensures { result ≡ every (λ v. atom ∈? v.known) (views_in records.now n) }
 {
-    for j in 0..n {
-        if !records[4 * j + 1].has(atom) {
-            return false;
-        }
-    }
-    true
+    (0..n).all(|j| records[4 * j + 1].has(atom))
 }
 
 // Is the atom possible in none of the first n records?
@@ -24,10 +19,5 @@ pub fn possible_in_none(records: &[u16], n: usize, atom: u16) -> bool
     requires { (4 * n ≤ length records.now) × (atom < 16) }
     ensures { result ≡ every (λ v. not (atom ∈? v.possible)) (views_in records.now n) }
 {
-    for j in 0..n {
-        if records[4 * j + 2].has(atom) {
-            return false;
-        }
-    }
-    true
+    (0..n).all(|j| !records[4 * j + 2].has(atom))
 }

@@ -1,30 +1,19 @@
--- `records::atoms::possible_in_none` meets its contract. The loop has passed only records in which the atom is not possible. Assumes nothing.
-use mathlib.Core.Path.{sym, ap, ◌∙◌}
-use mathlib.Core.Bool.{not, true≢false}
+-- `records::atoms::possible_in_none` meets its contract. Assumes nothing.
+use Prim.Native.Nat.{◌+◌, ◌*◌}
+use mathlib.Core.Path.{◌≡◌, refl}
+use mathlib.Core.Bool.{true, false, not}
 use native.Mathlib.Omega.{arith}
-use borrow.Author.Count.{below_none, below_more}
-use Rattle.sets.specs.Decides.{is_true, is_false}
+use lib.ListN.{get_or}
+use borrow.Author.Rules.{rules}
+use borrow.Author.Tests.{tests}
+use Rattle.std.proofs.lemmas.Iterator.{cases_from_all, YieldsList-from_range}
 use Rattle.sets.specs.Sets.{◌∈?◌}
-use Rattle.records.proofs.Placed.{dec_views}
+use Rattle.records.proofs.Placed.{every_by_numbers}
 use Rattle.records.proofs.atoms.possible_in_none.Goals as goal
-
-pub loop-j-init : goal.loop-j-init
-loop-j-init c = (omega arith, below_none _)
-
-pub returns-then-has : goal.returns-then-has
-returns-then-has c =
-    let a = c.args in
-    let l = c.loop-j in
-    sym (is_false (dec_views (λ v. not (a.atom ∈? v.possible)) a.records.now a.n)
-    (λ h. true≢false (sym (h l.j c.loop-j-test.true) ∙ ap not (sym c.has.ensures ∙ c.if-has.true))))
-
-pub loop-j-preserved : goal.loop-j-preserved
-loop-j-preserved c =
-    let l = c.loop-j in
-    (omega arith, below_more _ _ l.invariant.1 (ap not (sym c.has.ensures ∙ c.if-has.false)))
 
 pub returns : goal.returns
 returns c =
     let a = c.args in
-    sym (is_true (dec_views (λ v. not (a.atom ∈? v.possible)) a.records.now a.n)
-    (λ i h. c.loop-j.invariant.1 i (omega (arith, h, c.loop-j-test.false))))
+    every_by_numbers (λ v. not (a.atom ∈? v.possible)) a.records.now a.n _
+    (cases_from_all _ _ _ (λ j. (not (a.atom ∈? get_or a.records.now (4 * j + 2) 0)) ≡ true) (λ j. (not (a.atom ∈? get_or a.records.now (4 * j + 2) 0)) ≡ false) c.all.ensures.ran (YieldsList-from_range 0 a.n a.n refl (omega arith))
+    (λ j q k. search (rules, tests)) (λ j q k. search (rules, tests)))
