@@ -6,7 +6,7 @@ use mathlib.Core.List.{List}
 use mathlib.Core.Logic.{⊎_elim}
 use native.Mathlib.Omega.{arith}
 use native.Mathlib.Nat.{eq-or-lt_of_le, le_of_suc-le-suc, lt_of_not-le}
-use borrow.Author.Count.{below_none, below_more}
+use borrow.Author.Count.{below_more}
 use lib.Dec.{ltb}
 use lib.ListN.{get_or}
 use Rattle.sets.specs.Decides.{decided, is_false, dec_one, dec_iff, dec_le}
@@ -42,9 +42,6 @@ module _ (ws : List ℕ) (n : ℕ) (f : LargerFirst ws n) (g j : ℕ) (before : 
         λ p. ⊎_elim (λ l. l) (λ l. absurd (none_covers (omega (arith, lt_of_not-le l)) p)) (decided (dec_le (suc (size g)) (size other))),
         λ l. (j, h, covered g other t l),
       ) (dec_covers ws n g))
-
-pub loop-j-init : goal.loop-j-init
-loop-j-init c = (omega arith, below_none _)
 
 pub returns-then-subset : goal.returns-then-subset
 returns-then-subset c =

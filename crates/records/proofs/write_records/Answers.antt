@@ -1,6 +1,6 @@
 -- `records::write_records` meets its contract. Assumes nothing.
 use Prim.Native.Nat.{◌*◌}
-use mathlib.Core.Path.{◌≡◌, refl, sym, ap, ◌∙◌}
+use mathlib.Core.Path.{refl, sym, ap, ◌∙◌}
 use native.Mathlib.Numerals.{add-one}
 use native.Mathlib.Omega.{arith}
 use lib.ListN.{length}
@@ -31,13 +31,3 @@ loop-i-preserved c =
           ∙ word_more (views_in a.records.now l.i) v a.out.now (4 * l.i) (words_long _ ∙ ap (λ n. 4 * n) (views_in_long a.records.now l.i))
           ∙ ap (λ vs. written (words vs) a.out.now) (sym (ap (views_in a.records.now) (add-one l.i) ∙ views_suc a.records.now l.i)),
     )
-
-pub shape_of-out : goal.shape_of-out
-shape_of-out c = c.loop-i.invariant.1
-
-pub returns : goal.returns
-returns c =
-    let l = c.loop-i in
-    let a = c.args in
-    let e : l.i ≡ a.n = omega (arith, l.invariant.0, c.loop-i-test.false) in
-    l.invariant.2 ∙ ap (λ m. written (words (views_in a.records.now m)) a.out.now) e

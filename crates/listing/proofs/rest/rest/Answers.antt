@@ -1,14 +1,13 @@
 -- `listing::rest::rest` meets its contract. Assumes nothing.
 use Prim.Native.Nat.{ℕ, ◌+◌, ◌^◌, ◌≤◌, ◌<◌}
-use mathlib.Core.Path.{◌≡◌, refl, sym, ap, ◌∙◌, subst}
+use mathlib.Core.Path.{◌≡◌, sym, ◌∙◌, subst}
 use mathlib.Core.List.{List}
 use native.Mathlib.Omega.{arith}
 use lib.ListN.{length, get_or}
 use lib.Pow.{pow_mono}
-use Rattle.semantics.specs.Walk.{walk}
 use Rattle.guess.specs.Programs.{setting_in}
 use Rattle.answers.specs.declared.tally.Tally.{Tally}
-use Rattle.listing.proofs.Along.{passed, along_more, along_same, counts_few, views_fewer}
+use Rattle.listing.proofs.Along.{along_more, along_same, counts_few, views_fewer}
 use Rattle.listing.proofs.Levels.{along_levels}
 use Rattle.listing.proofs.RestLoop.{holds}
 use Rattle.listing.proofs.rest.rest.Goals as goal
@@ -16,15 +15,6 @@ use Rattle.listing.proofs.rest.rest.Goals.{then-guess-end, else-guess-end}
 
 came : (P : List ℕ → Tally → Type 0) {r r' : List ℕ} {t t' : Tally} → r ≡ r' → t ≡ t' → P r' t' → P r t
 came P {r} {r'} {t} {t'} d e p = subst (λ z. P z t) (sym d) (subst (λ z. P r' z) (sym e) p)
-
-pub overflow_cast-x : goal.overflow_cast-x
-overflow_cast-x c = omega (arith, c.requires.outlines.0.few_negations)
-
-pub power-end-requires : goal.power-end-requires
-power-end-requires c = omega (arith, c.requires.outlines.0.few_negations)
-
-pub loop-i-init : goal.loop-i-init
-loop-i-init c = let (room, within, walked) = c.requires.records_room_in_bounds in (within, refl, walked)
 
 pub pass-counts-requires : goal.pass-counts-requires
 pass-counts-requires c =
@@ -61,16 +51,3 @@ loop-i-preserved c =
           came (holds s n a.order.now a.records.now (l.i + 1)) w.records-is w.counts-is
           (omega arith, l.invariant.1, along_same s n a.order.now l.i told l.invariant.2 beyond)
     ]
-
-pub shape_of-records : goal.shape_of-records
-shape_of-records c = c.loop-i.invariant.1
-
-pub returns : goal.returns
-returns c =
-    let a = c.args in
-    let l = c.loop-i in
-    let end : l.i ≡ length a.order.now = omega (arith, l.invariant.0, c.loop-i-test.false) in
-    record {
-      records_len_unchanged = l.invariant.1;
-      records_after = l.invariant.2 ∙ ap (λ i. walk (setting_in a.x a.words.now) (passed a.x.negations a.order.now i)) end;
-    }

@@ -11,19 +11,10 @@ use Rattle.guess.specs.Settings.{contradicted_by}
 use borrow.Author.Rules.{rules}
 use Rattle.listing.proofs.paused.Paused.look.Goals as goal
 
-pub reduct-rules-requires : goal.reduct-rules-requires
-reduct-rules-requires c = (c.requires.outlines.0, c.requires.outlines.2)
-
 pub contradicted-requires : goal.contradicted-requires
 contradicted-requires c =
     let pre = c.requires.outlines in
     (search rules, few_of pre.0, guess_below pre.0 pre.1)
-
-pub count-next-requires : goal.count-next-requires
-count-next-requires c = c.requires.waits_value.1
-
-pub shape_of-program-then-contradicted : goal.shape_of-program-then-contradicted
-shape_of-program-then-contradicted c = c.reduct-rules.ensures.out_len_unchanged
 
 pub returns-then-contradicted : goal.returns-then-contradicted
 returns-then-contradicted c =
@@ -39,9 +30,6 @@ returns-then-contradicted c =
         );
       };
     }
-
-pub shape_of-program : goal.shape_of-program
-shape_of-program c = c.reduct-rules.ensures.out_len_unchanged
 
 pub returns : goal.returns
 returns c =

@@ -1,6 +1,6 @@
 -- `listing::paused::Paused::reach` meets its contract. Assumes nothing.
 use Prim.Native.Nat.{◌^◌, ◌≤◌, ◌<◌}
-use mathlib.Core.Path.{◌≡◌, refl, sym, ◌∙◌}
+use mathlib.Core.Path.{◌≡◌, sym, ◌∙◌}
 use native.Mathlib.Omega.{arith}
 use lib.ListN.{length, get_or}
 use Rattle.sets.specs.Decides.{dec_self}
@@ -8,15 +8,6 @@ use Rattle.listing.specs.Pauses.{waits}
 use Rattle.listing.proofs.Pausing.{some_rules}
 use Rattle.listing.proofs.Reaching.{few_counts, larger_first, room_left, along_passed, along_waiting, along_over, at_end, at-waiting}
 use Rattle.listing.proofs.paused.Paused.reach.Goals as goal
-
-pub overflow_cast-x : goal.overflow_cast-x
-overflow_cast-x c = omega (arith, c.requires.outlines.0.few_negations)
-
-pub power-end-requires : goal.power-end-requires
-power-end-requires c = omega (arith, c.requires.outlines.0.few_negations)
-
-pub loop-self-init : goal.loop-self-init
-loop-self-init c = let pre = c.requires.tested_le_most in (refl, refl, pre.0, pre.1)
 
 pub advance-self-requires : goal.advance-self-requires
 advance-self-requires c =
@@ -35,12 +26,6 @@ advance-self-requires c =
       );
       tested_le_most = (l.invariant.2, λ rules e. (along.waiting rules e).2);
     }
-
-pub shape_of-program-then-is_some : goal.shape_of-program-then-is_some
-shape_of-program-then-is_some c = c.advance-self.ensures.program_len_unchanged ∙ c.loop-self.invariant.0
-
-pub shape_of-records-then-is_some : goal.shape_of-records-then-is_some
-shape_of-records-then-is_some c = c.advance-self.ensures.records_len_unchanged ∙ c.loop-self.invariant.1
 
 pub returns-then-is_some : goal.returns-then-is_some
 returns-then-is_some c =
@@ -85,9 +70,6 @@ loop-self-preserved-else-is_some c =
       along_passed a.order.now c.requires.outlines.0 c.requires.outlines.1 l.invariant.3 told below (sym c.is_some.ensures ∙ c.if-is_some.false) step.ensures.advanced,
     )
 
-pub loop-self-smaller : goal.loop-self-smaller
-loop-self-smaller c = omega (arith, c.loop-self-test.true)
-
 pub loop-self-preserved : goal.loop-self-preserved
 loop-self-preserved c =
     let l = c.loop-self in
@@ -95,12 +77,6 @@ loop-self-preserved c =
     let told : l.self.at < length a.order.now = omega (arith, c.loop-self-test.true) in
     let beyond : 2 ^ a.x.negations ≤ get_or a.order.now l.self.at 0 = omega (arith, c.if-order-at.false, c.power-end.ensures) in
     (l.invariant.0, l.invariant.1, l.invariant.2, along_over a.order.now c.requires.outlines.0 c.requires.outlines.1 l.invariant.3 told beyond)
-
-pub shape_of-program : goal.shape_of-program
-shape_of-program c = c.loop-self.invariant.0
-
-pub shape_of-records : goal.shape_of-records
-shape_of-records c = c.loop-self.invariant.1
 
 pub returns : goal.returns
 returns c =

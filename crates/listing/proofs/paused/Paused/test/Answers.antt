@@ -21,9 +21,6 @@ judged-outcome-requires c =
     let pre = c.requires in
     (omega (arith, pre.outlines.2, pre.at_most.2.few), pre.at_most.2.few, few_of pre.outlines.0)
 
-pub count-next-requires : goal.count-next-requires
-count-next-requires c = c.requires.at_most.0
-
 pub returns : goal.returns
 returns c =
     let a = c.args in
