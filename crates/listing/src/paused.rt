@@ -144,6 +144,7 @@ impl Paused {
         ensures at_value { waits result ≡ false → result.at ≡ length order.now }
     {
         let end = power(x.negations as u16);
+        // No `for`: where it stands is the state that is kept over a pause.
         while self.at < order.len() {
             let at = self.at;
             if order[at] < end {

@@ -26,7 +26,8 @@ pub fn in_all(mask: u16, row: &[u64; 16]) -> u64
     lanes
 }
 
-// Those that are in the word of some atom of the mask, all of whose atoms are below 16.
+// Those that are in the word of some atom of the mask, all of whose atoms are below 16. One loop with a closure for "and" and "or" would be no plainer:
+// each has its own start, its own meaning and its own proof.
 pub fn in_some(mask: u16, row: &[u64; 16]) -> u64
     ensures { Lanes (InSome mask row.now) result × (mask < 2 ^ 16) }
 {
@@ -52,7 +53,7 @@ pub fn sure(words: &[u16], j: usize, truths: &Rows, falsities: &Rows) -> u64
     plain & nots & not_nots & known & not_known & may_be & not_may_be
 }
 
-// The lanes in which some literal of rule j is false.
+// The lanes in which some literal of rule j is false. Beside `sure` every row is the other side's, so a function for both would be no plainer.
 pub fn dead(words: &[u16], j: usize, truths: &Rows, falsities: &Rows) -> u64
     requires { 8 * j + 8 ≤ length words.now }
     ensures { Lanes (DeadIn words.now j truths.now falsities.now) result }

@@ -1,13 +1,10 @@
 -- `ruling::pass::follow` meets its contract. Assumes nothing.
-use mathlib.Core.Path.{◌≡◌, sym, subst}
+use mathlib.Core.Path.{sym, subst}
 use native.Mathlib.Omega.{arith}
 use Prim.Native.Nat.{◌+◌}
-use Rattle.ruling.specs.Pass.{TruesTo, Followed, follow_none, true_more, true_over, follow_more}
+use Rattle.ruling.specs.Pass.{TruesTo, true_more, true_over, follow_more}
 use Rattle.ruling.proofs.pass.follow.Goals as goal
 use Rattle.ruling.proofs.pass.follow.Goals.{in-Some, in_default}
-
-pub loop-j-init : goal.loop-j-init
-loop-j-init c = (omega arith, omega arith, follow_none _ _ _)
 
 pub loop-j-preserved : goal.loop-j-preserved
 loop-j-preserved c =
@@ -27,10 +24,3 @@ loop-j-preserved c =
           ])
           c.dead.ensures c.narrow.ensures l.invariant.2,
     )
-
-pub returns : goal.returns
-returns c =
-    let l = c.loop-j in
-    let a = c.args in
-    let e : l.j ≡ a.rules = omega arith in
-    subst (λ z. Followed a.words.now a.truths.now a.falsities.now z a.t.now a.shut.now l.t l.shut) e l.invariant.2
