@@ -10,24 +10,23 @@ use Rattle.semantics.specs.Definitions.Sheet.{count_at}
 use Rattle.semantics.specs.Definitions.Calendar.{Entry, most_entries, entry_at, calendar_of}
 use Rattle.semantics.specs.Theorems.Reading.{field_same, times-length}
 use Rattle.semantics.proofs.Theorems.Fields.{count_field}
-use Rattle.calendar.specs.declared.entries.Step.{Step}
-use Rattle.calendar.specs.declared.entries.Step.TheVariants.{Got, Refused}
+use Rattle.answers.specs.declared.refusal.Refusal.{Refusal}
+use Rattle.std.specs.Prelude.{Ok, Err}
 use Rattle.calendar.specs.Entries.{entries_in}
-use Rattle.calendar.specs.Steps.{step_of, AllEntered, ReadInto, was_field, was_refused}
+use Rattle.calendar.specs.Steps.{Step, Refused, step_of, AllEntered, ReadInto, was_field, refused_so}
 
 -- a calendar that is refused
-refuses_so : {r : Reading (List Entry)} {k p : ℕ} {f : Step} (words : List ℕ) → r ≡ refused k p → f ≡ Refused k p → ReadInto r f words
-refuses_so words e told = (told ∙ sym (ap (step_of (λ es _. length es)) e), λ es end d. unequal cc)
+refuses_so : {r : Reading (List Entry)} (k p : ℕ) (words : List ℕ) → r ≡ refused k p → ReadInto r (Refused k p) words
+refuses_so k p words e = (sym (ap (step_of (λ es _. length es)) e), λ es end d. unequal cc)
 
 -- f is what the count answers
 module _ (c : List ℕ) (rules : ℕ) {f : Step} (answered : f ≡ step_of (λ n _. n) (count_at c most_entries 0)) where
-  pub count_refused : {k p : ℕ} (words : List ℕ) → f ≡ Refused k p → ReadInto (calendar_of c rules) f words
+  pub count_refused : (words : List ℕ) {q : Refusal} → f ≡ Err q → ReadInto (calendar_of c rules) (Err q) words
   unfolding calendar_of
-  count_refused words told =
-      let e = was_refused (λ n _. n) (count_at c most_entries 0) answered told in
-      refuses_so words (rw e) told
+  count_refused words =
+      refused_so (λ n _. n) (count_at c most_entries 0) answered (λ q. ReadInto (calendar_of c rules) (Err q) words) (λ k p e. refuses_so k p words (rw e))
 
-  module _ {n : ℕ} (told : f ≡ Got n) where
+  module _ {n : ℕ} (told : f ≡ Ok n) where
     counted : (count_at c most_entries 0 ≡ field n 1) × (n ≤ most_entries)
     counted =
         let (m, next, e, same) = was_field (λ n _. n) (count_at c most_entries 0) answered told in
@@ -39,25 +38,25 @@ module _ (c : List ℕ) (rules : ℕ) {f : Step} (answered : f ≡ step_of (λ n
 
     -- g is what the entries answer
     module _ (words : List ℕ) {g : Step} (entered : AllEntered (times n [] (λ _. entry_at c rules) 1) g n words) where
-      pub entries_refused : {k p : ℕ} → g ≡ Refused k p → ReadInto (calendar_of c rules) g words
+      pub entries_refused : {q : Refusal} → g ≡ Err q → ReadInto (calendar_of c rules) (Err q) words
       unfolding calendar_of
-      entries_refused says =
-          let e = was_refused (λ _ next. next) (times n [] (λ _. entry_at c rules) 1) entered.0 says in
-          refuses_so words (rw (counted.0, e)) says
+      entries_refused =
+          refused_so (λ _ next. next) (times n [] (λ _. entry_at c rules) 1) entered.0 (λ q. ReadInto (calendar_of c rules) (Err q) words)
+          (λ k p e. refuses_so k p words (rw (counted.0, e)))
 
-      module _ {end : ℕ} (says : g ≡ Got end) where
+      module _ {end : ℕ} (says : g ≡ Ok end) where
         -- the entries that were read
         all : (es : List Entry) × (times n [] (λ _. entry_at c rules) 1 ≡ field es end) × (length es ≡ n) × (entries_in words n ≡ es)
         all =
             let (es, next, e, same) = was_field (λ _ next. next) (times n [] (λ _. entry_at c rules) 1) entered.0 says in
             (es, e ∙ ap (field es) (sym same), times-length (λ _. entry_at c rules) n 1 e, entered.1 es next e)
 
-        pub no_more : end ≡ length c → ReadInto (calendar_of c rules) (Got n) words
+        pub no_more : end ≡ length c → ReadInto (calendar_of c rules) (Ok n) words
         unfolding calendar_of
         no_more whole =
             let (es, e, long, is) = all in
             let d : calendar_of c rules ≡ field es end = rw (counted.0, e, is_true (dec_eq end (length c)) whole) in (
-              ap Got (sym long) ∙ sym (ap (step_of (λ es _. length es)) d),
+              ap Ok (sym long) ∙ sym (ap (step_of (λ es _. length es)) d),
               λ ds last f.
                   let same = (field_same (sym d ∙ f)).0 in
                   rw same (rw long is),
@@ -67,4 +66,4 @@ module _ (c : List ℕ) (rules : ℕ) {f : Step} (answered : f ≡ step_of (λ n
         unfolding calendar_of
         extra more =
             let (es, e, long, is) = all in
-            refuses_so words (rw (counted.0, e, is_false (dec_eq end (length c)) more)) (λ _. Refused 6 end)
+            refuses_so 6 end words (rw (counted.0, e, is_false (dec_eq end (length c)) more))

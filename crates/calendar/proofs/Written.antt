@@ -16,10 +16,10 @@ use Rattle.semantics.specs.Definitions.Calendar.{Entry, last_minute, proper, ent
 use Rattle.semantics.specs.Words.{word_stays}
 use Rattle.semantics.specs.Theorems.Reading.{field_same}
 use Rattle.semantics.specs.Theorems.Turns.{starts, goes_on, stops, is_done}
-use Rattle.calendar.specs.declared.entries.Step.{Step}
-use Rattle.calendar.specs.declared.entries.Step.TheVariants.{Got, Refused}
+use Rattle.answers.specs.declared.refusal.Refusal.{Refusal}
+use Rattle.std.specs.Prelude.{Ok, Err}
 use Rattle.calendar.specs.Entries.{entry_of, entry_in, entries_in, entries_none, entries_more}
-use Rattle.calendar.specs.Steps.{step_of, Entered, AllEntered, was_field, was_refused}
+use Rattle.calendar.specs.Steps.{Step, Refused, step_of, Entered, AllEntered, was_field, refused_so}
 
 -- ---- three words
 module _ (out : List ℕ) (i rule first end : ℕ) (room : 3 * i + 3 ≤ length out) where
@@ -104,15 +104,15 @@ module _ (c : List ℕ) (rules at : ℕ) (words : List ℕ) (i : ℕ) where
     same : read ≡ entry_from c at
     same = λ j. entry_of (byte_at c at) (begins j) (ends j)
 
-    pub entered_so : proper rules read ≡ true → entry_in words i ≡ read → Entered (entry_at c rules at) (Got (at + 5)) words i
+    pub entered_so : proper rules read ≡ true → entry_in words i ≡ read → Entered (entry_at c rules at) (Ok (at + 5)) words i
     unfolding entry_at
     entered_so good is =
         let e : entry_at c rules at ≡ field (entry_from c at) (at + 5) = rw (there, sym (ap (proper rules) same) ∙ good) in
         (sym (ap (step_of (λ _ next. next)) e), λ x next d. is ∙ same ∙ sym (field_same (sym e ∙ d)).0)
 
-    pub refused_so : proper rules read ≡ false → Entered (entry_at c rules at) (Refused 11 at) words i
+    pub eleven_so : proper rules read ≡ false → Entered (entry_at c rules at) (Refused 11 at) words i
     unfolding entry_at
-    refused_so bad =
+    eleven_so bad =
         let e : entry_at c rules at ≡ refused 11 at = rw (there, sym (ap (proper rules) same) ∙ bad) in
         (sym (ap (step_of (λ _ next. next)) e), λ x next d. unequal cc)
 
@@ -137,20 +137,20 @@ module _ (c : List ℕ) (rules n : ℕ) where
 
   module _ {out : List ℕ} {at i : ℕ} (reached : Reached out at i) where
     module _ (h : i < n) (after : List ℕ) {step : Step} (answered : Entered (entry_at c rules at) step after i) where
-      pub refuses : {k p : ℕ} → step ≡ Refused k p → AllEntered whole step n after
-      refuses {k} {p} told =
-          let e = was_refused (λ _ next. next) (entry_at c rules at) answered.0 told in
+      pub refuses : {q : Refusal} → step ≡ Err q → AllEntered whole (Err q) n after
+      refuses =
+          refused_so (λ _ next. next) (entry_at c rules at) answered.0 (λ q. AllEntered whole (Err q) n after) (λ k p e.
           let d : whole ≡ refused k p = stops (λ _. entry_at c rules) n i at (entries_in out i) reached.left h e in
-          (told ∙ sym (ap (step_of (λ _ next. next)) d), λ es end f. unequal cc)
+          (sym (ap (step_of (λ _ next. next)) d), λ es end f. unequal cc))
 
-      pub turned : take (3 * i) after ≡ take (3 * i) out → {next : ℕ} → step ≡ Got next → Reached after next (i + 1)
+      pub turned : take (3 * i) after ≡ take (3 * i) out → {next : ℕ} → step ≡ Ok next → Reached after next (i + 1)
       turned stays {next} told =
           let (x, at', e, same) = was_field (λ _ next. next) (entry_at c rules at) answered.0 told in
           let more = entry-added i after out stays (answered.1 x at' e) in
           let left = goes_on (λ _. entry_at c rules) n i at (entries_in out i) reached.left h e in
           record { few = omega arith; left = left ∙ ap₂ (λ es p. times (n - (i + 1)) es (λ _. entry_at c rules) p) (sym more) (sym same) }
 
-    pub finished : n ≤ i → AllEntered whole (Got at) n out
+    pub finished : n ≤ i → AllEntered whole (Ok at) n out
     finished h =
         let same : i ≡ n = omega (arith, reached.few) in
         let d = is_done (λ _. entry_at c rules) n i at (entries_in out i) reached.left h in

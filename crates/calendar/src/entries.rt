@@ -6,27 +6,29 @@ ghost use Rattle.semantics.specs.Definitions.Calendar.{most_entries, proper as i
 ghost use Rattle.calendar.specs.Entries.{entry_in, entry_of};
 ghost use Rattle.calendar.specs.Steps.{step_of, Entered, AllEntered, ReadInto};
 
+use answers::{Reason, Refusal};
 use sheet::{present, word};
 
-// What a reading step answers: the number that it read, or the next place; or a refusal, by number and place.
-#[derive(Clone, Copy)]
-pub enum Step {
-    Got(usize),
-    Refused(u8, usize),
-}
+// The steps answer the number that they read, or the next place.
 
 // The number of entries: one byte, at most 64.
-fn count(c: &[u8]) -> Step
+fn count(c: &[u8]) -> Result<usize, Refusal>
     ensures { result ≡ step_of (λ n _. n) (count_at c.now most_entries 0) }
 {
     if present(c, 0, 1) {
         let n = c[0] as usize;
         if 64 < n {
-            return Step::Refused(2, 0);
+            return Err(Refusal {
+                reason: Reason::OverLimit,
+                place: 0,
+            });
         }
-        return Step::Got(n);
+        return Ok(n);
     }
-    Step::Refused(1, c.len())
+    Err(Refusal {
+        reason: Reason::EndsTooSoon,
+        place: c.len(),
+    })
 }
 
 // Is it a rule of the sheet, and are these two minutes of the week that differ?
@@ -58,7 +60,7 @@ fn store(out: &mut [u16], i: usize, rule: u16, first: u16, end: u16)
 }
 
 // Entry i, whose five bytes begin at a place: all of them are there before it is judged.
-fn entry(c: &[u8], rules: usize, at: usize, out: &mut [u16], i: usize) -> Step
+fn entry(c: &[u8], rules: usize, at: usize, out: &mut [u16], i: usize) -> Result<usize, Refusal>
     requires { 3 * i + 3 ≤ length out.old }
     ensures out_len_unchanged { length out.new ≡ length out.old }
     ensures out_unchanged { take (3 * i) out.new ≡ take (3 * i) out.old }
@@ -70,46 +72,45 @@ fn entry(c: &[u8], rules: usize, at: usize, out: &mut [u16], i: usize) -> Step
         let end = word(c, at + 3);
         if proper(rules, rule, first, end) {
             store(&mut out[..], i, rule, first, end);
-            return Step::Got(at + 5);
+            return Ok(at + 5);
         }
-        return Step::Refused(11, at);
+        return Err(Refusal {
+            reason: Reason::BadEntry,
+            place: at,
+        });
     }
-    Step::Refused(1, c.len())
+    Err(Refusal {
+        reason: Reason::EndsTooSoon,
+        place: c.len(),
+    })
 }
 
 // So many entries, after the count; answers the place after them.
-fn entries(c: &[u8], rules: usize, n: usize, out: &mut [u16]) -> Step
+fn entries(c: &[u8], rules: usize, n: usize, out: &mut [u16]) -> Result<usize, Refusal>
     requires { 3 * n ≤ length out.old }
     ensures out_len_unchanged { length out.new ≡ length out.old }
     ensures all_entered { AllEntered (times n [] (λ _. entry_at c.now rules) 1) result n out.new }
 {
     let mut at = 1;
     for i in 0..n {
-        let step = entry(c, rules, at, &mut out[..], i);
-        let Step::Got(next) = step else {
-            return step;
-        };
-        at = next;
+        at = entry(c, rules, at, &mut out[..], i)?;
     }
-    Step::Got(at)
+    Ok(at)
 }
 
 // The calendar of a sheet with so many rules: answers the number of its entries, which then stand in the words.
-pub fn read(c: &[u8], rules: usize, out: &mut [u16]) -> Step
+pub fn read(c: &[u8], rules: usize, out: &mut [u16]) -> Result<usize, Refusal>
     requires { 3 * most_entries ≤ length out.old }
     ensures out_len_unchanged { length out.new ≡ length out.old }
     ensures read_into { ReadInto (calendar_of c.now rules) result out.new }
 {
-    let counted = count(c);
-    let Step::Got(n) = counted else {
-        return counted;
-    };
-    let step = entries(c, rules, n, &mut out[..]);
-    let Step::Got(end) = step else {
-        return step;
-    };
+    let n = count(c)?;
+    let end = entries(c, rules, n, &mut out[..])?;
     if end == c.len() {
-        return Step::Got(n);
+        return Ok(n);
     }
-    Step::Refused(6, end)
+    Err(Refusal {
+        reason: Reason::ExtraBytes,
+        place: end,
+    })
 }

@@ -5,6 +5,6 @@ mod entries;
 mod force;
 mod minutes;
 
-pub use entries::{Step, read};
+pub use entries::read;
 pub use force::in_force;
 pub use minutes::minutes_of_change;

@@ -4,7 +4,7 @@ ghost use Rattle.std.specs.Prelude.{◌≤◌, length};
 use super::output::{Output, field};
 use super::request::Asked;
 use engine::{
-    Checked, Counted, Judged, Listed, Queried, Share, Shared, Shares, belief_sets, changes, check,
+    Checked, Queried, Refusal, Share, Shared, Shares, Tally, Verdict, belief_sets, changes, check,
     list, list_at, query, verdict,
 };
 
@@ -36,86 +36,77 @@ fn three(x: usize, y: usize, z: usize, at: usize, out: &mut [u8], output: &mut O
     field(z, b, out, output)
 }
 
-fn checked(r: Checked, at: usize, out: &mut [u8], output: &mut Output) -> usize
+fn checked(r: Result<Checked, Refusal>, at: usize, out: &mut [u8], output: &mut Output) -> usize
     requires { (at ≤ length out.old) × (1024 ≤ length out.old) }
     ensures { result ≤ length out.new }
 {
     match r {
-        Checked::Accepted {
-            atoms,
-            rules,
-            negations,
-        } => {
+        Ok(x) => {
             let a = field(0, at, out, output);
-            three(atoms, rules, negations, a, out, output)
+            three(x.atoms, x.rules, x.negations, a, out, output)
         }
-        Checked::Refused { number, place } => refused(number, place, at, out, output),
+        Err(refusal) => refused(refusal.reason.number(), refusal.place, at, out, output),
     }
 }
 
-fn judged(r: Judged, at: usize, out: &mut [u8], output: &mut Output) -> usize
+fn judged(r: Result<Verdict, Refusal>, at: usize, out: &mut [u8], output: &mut Output) -> usize
     requires { (at ≤ length out.old) × (1024 ≤ length out.old) }
     ensures { result ≤ length out.new }
 {
     match r {
-        Judged::Empty => accepted(0, at, out, output),
-        Judged::Other { found } => {
+        Ok(Verdict::Empty) => accepted(0, at, out, output),
+        Ok(Verdict::Other { found }) => {
             let a = accepted(1, at, out, output);
             field(found as usize, a, out, output)
         }
-        Judged::Verified {
-            known,
-            possible,
-            sets,
-        } => {
+        Ok(
+            Verdict::Verified {
+                known,
+                possible,
+                sets,
+            },
+        ) => {
             let a = accepted(2, at, out, output);
             three(known as usize, possible as usize, sets, a, out, output)
         }
-        Judged::Refused { number, place } => refused(number, place, at, out, output),
+        Err(refusal) => refused(refusal.reason.number(), refusal.place, at, out, output),
     }
 }
 
-fn counted(r: Counted, at: usize, out: &mut [u8], output: &mut Output) -> usize
+fn counted(r: Result<usize, Refusal>, at: usize, out: &mut [u8], output: &mut Output) -> usize
     requires { (at ≤ length out.old) × (1024 ≤ length out.old) }
     ensures { result ≤ length out.new }
 {
     match r {
-        Counted::Accepted { count } => accepted(count, at, out, output),
-        Counted::Refused { number, place } => refused(number, place, at, out, output),
+        Ok(count) => accepted(count, at, out, output),
+        Err(refusal) => refused(refusal.reason.number(), refusal.place, at, out, output),
     }
 }
 
-fn listed(r: Listed, at: usize, out: &mut [u8], output: &mut Output) -> usize
+fn listed(r: Result<Tally, Refusal>, at: usize, out: &mut [u8], output: &mut Output) -> usize
     requires { (at ≤ length out.old) × (1024 ≤ length out.old) }
     ensures { result ≤ length out.new }
 {
     match r {
-        Listed::Accepted {
-            views,
-            covered,
-            ruled,
-            tested,
-            empty,
-            other,
-        } => {
+        Ok(t) => {
             let a = field(0, at, out, output);
-            let b = three(views, covered, ruled, a, out, output);
-            three(tested, empty, other, b, out, output)
+            let b = three(t.views, t.covered, t.ruled, a, out, output);
+            three(t.tested, t.empty, t.other, b, out, output)
         }
-        Listed::Refused { number, place } => refused(number, place, at, out, output),
+        Err(refusal) => refused(refusal.reason.number(), refusal.place, at, out, output),
     }
 }
 
-fn queried(r: Queried, at: usize, out: &mut [u8], output: &mut Output) -> usize
+fn queried(r: Result<Queried, Refusal>, at: usize, out: &mut [u8], output: &mut Output) -> usize
     requires { (at ≤ length out.old) × (1024 ≤ length out.old) }
     ensures { result ≤ length out.new }
 {
     match r {
-        Queried::Yes => accepted(0, at, out, output),
-        Queried::No => accepted(1, at, out, output),
-        Queried::Open => accepted(2, at, out, output),
-        Queried::None => accepted(3, at, out, output),
-        Queried::Refused { number, place } => refused(number, place, at, out, output),
+        Ok(Queried::Yes) => accepted(0, at, out, output),
+        Ok(Queried::No) => accepted(1, at, out, output),
+        Ok(Queried::Open) => accepted(2, at, out, output),
+        Ok(Queried::None) => accepted(3, at, out, output),
+        Err(refusal) => refused(refusal.reason.number(), refusal.place, at, out, output),
     }
 }
 

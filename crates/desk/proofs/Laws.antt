@@ -21,9 +21,11 @@ use Rattle.semantics.proofs.Theorems.Records.{words_long}
 use Rattle.semantics.proofs.Theorems.ListCall.{result-given, result_says, list_refused}
 use Rattle.semantics.proofs.Theorems.DaySource.{day_bounded}
 use Rattle.semantics.proofs.Theorems.Desk.{tally_small, refused_small, never_short}
-use Rattle.engine.specs.declared.Listed.{Listed}
-use Rattle.engine.specs.declared.Listed.TheVariants.{Accepted, Refused}
-use Rattle.engine.specs.Answers.{listed}
+use Rattle.std.specs.Prelude.{Ok, Err}
+use Rattle.answers.specs.Refusals.{number_of}
+use Rattle.answers.specs.declared.refusal.Refusal.{Refusal}
+use Rattle.answers.specs.declared.tally.Tally.{Tally as Counts}
+use Rattle.engine.specs.Answers.{OrRefused, listed}
 use Rattle.desk.specs.Demand3.{DeskDemand, desk_demand}
 use Rattle.desk.specs.Days.{Returns, DeskDay, desk_day}
 
@@ -42,9 +44,15 @@ kept : (from : Returned Setting) (out : List ℕ) (number place : ℕ) → desk_
 kept from out number place e = (sym (ap desk_number e), sym (ap (λ q. afterwards desk_bytes q out) e))
 
 -- ---- a buffer of so many words was lent to `list`, which answered r
-module _ (from : Returned Setting) (bounded : Bounded from) (size : ℕ) {r : Listed} (answered : listed r ≡ answer (λ v. v.tally) (list_call from size)) where
+module _ (from : Returned Setting) (bounded : Bounded from) (size : ℕ) {r : OrRefused Counts} (answered : listed r ≡ answer (λ v. v.tally) (list_call from size)) where
   -- a refusal comes before the listing where the buffer is never too short
-  module _ {number place : ℕ} (told : r ≡ Refused number place) (long : 4 * records_room ≤ size) where
+  module _ {q : Refusal} (told : r ≡ Err q) (long : 4 * records_room ≤ size) where
+    abbrev number : ℕ
+    number = number_of q.reason
+
+    abbrev place : ℕ
+    place = q.place
+
     returned : list_call from size ≡ refusal number place
     returned = answer_refused (λ v. v.tally) (list_call from size) (sym answered ∙ ap listed told)
 
@@ -55,9 +63,12 @@ module _ (from : Returned Setting) (bounded : Bounded from) (size : ℕ) {r : Li
     refused_too out =
         kept from out number place ((list_refused desk_need from (length out / 2) number place).1 (inl (never_short bounded size number place long returned)))
 
-  module _ {views covered ruled tested empty other : ℕ} (told : r ≡ Accepted views covered ruled tested empty other) where
+  module _ {t : Counts} (told : r ≡ Ok t) where
     abbrev tally : Tally
-    tally = tallied views covered ruled tested empty other
+    tally = tallied t.views t.covered t.ruled t.tested t.empty t.other
+
+    abbrev views : ℕ
+    views = t.views
 
     found : (s : Setting) × (from ≡ accepted s) × (list_call from size ≡ accepted (result_of s)) × (tally_of s ≡ tally) × (4 * length (listing s) ≤ size)
     found =

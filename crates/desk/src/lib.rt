@@ -10,8 +10,7 @@ ghost use Rattle.semantics.specs.Definitions.Desk.{desk_call, desk_number, desk_
 ghost use Rattle.desk.specs.Demand3.{DeskDemand};
 ghost use Rattle.desk.specs.Days.{DeskDay};
 
-use answers::Tally;
-use engine::{Listed, list};
+use engine::list;
 use words::write_listing;
 
 // The listing under the day's masks, the atoms that are in and those that are out: the six counts and then a record for each world view, into
@@ -26,28 +25,13 @@ pub extern "C" fn budkarv_list(sheet: &[u8], ins: u16, outs: u16, bytes: &mut [u
     // four words for each of at most 4,096 views
     let mut records = [0u16; 16384];
     match list(sheet, ins, outs, &mut records) {
-        Listed::Accepted {
-            views,
-            covered,
-            ruled,
-            tested,
-            empty,
-            other,
-        } => {
-            if bytes.len() / 2 < 6 + 4 * views {
-                return 9 * 65536 + views as u32;
+        Ok(tally) => {
+            if bytes.len() / 2 < 6 + 4 * tally.views {
+                return 9 * 65536 + tally.views as u32;
             }
-            let tally = Tally {
-                views,
-                covered,
-                ruled,
-                tested,
-                empty,
-                other,
-            };
             write_listing(tally, &records, bytes);
             0
         }
-        Listed::Refused { number, place } => number as u32 * 65536 + place as u32,
+        Err(refusal) => refusal.reason.number() as u32 * 65536 + refusal.place as u32,
     }
 }

@@ -27,16 +27,15 @@ use Rattle.guess.specs.declared.outline.Outline.{Outline}
 use Rattle.guess.specs.Programs.{setting_in, Outlines}
 use Rattle.verdict.specs.declared.Verdict.{Verdict as Answer}
 use Rattle.verdict.specs.Verdicts.{verdict_of}
-use Rattle.source.specs.declared.Source.{Source}
-use Rattle.source.specs.declared.Source.TheVariants.{Accepted, Refused}
-use Rattle.source.specs.Sources.{Reads}
+use Rattle.std.specs.Prelude.{Ok, Err}
+use Rattle.answers.specs.Refusals.{number_of}
+use Rattle.answers.specs.declared.refusal.Refusal.{Refusal}
+use Rattle.answers.specs.declared.tally.Tally.{Tally as Counts}
+use Rattle.source.specs.Sources.{Source, Reads}
 use Rattle.source.proofs.Read.{reads_accepted, outlined, reads_refused}
 use Rattle.engine.specs.declared.Checked.{Checked}
-use Rattle.engine.specs.declared.Judged.{Judged}
-use Rattle.engine.specs.declared.Counted.{Counted}
-use Rattle.engine.specs.declared.Listed.{Listed}
 use Rattle.engine.specs.declared.Queried.{Queried}
-use Rattle.engine.specs.Answers.{checked, judged, counted, listed, queried}
+use Rattle.engine.specs.Answers.{OrRefused, checked, judged, counted, listed, queried}
 use Rattle.engine.specs.Demand1.{CheckDemand, check_demand}
 use Rattle.engine.specs.Demand2.{VerdictDemand, verdict_demand, SetsDemand, sets_demand}
 use Rattle.engine.specs.Demand3.{AsListed, ListingDemand, listing_demand}
@@ -47,7 +46,7 @@ use Rattle.engine.specs.Days.{AsCounted, VerdictDay, verdict_day, SetsDay, sets_
 
 -- ---- a call for a guess: r is what was read, with the guess judged
 module _ (from : Returned Setting) (g : ℕ) (words : List ℕ) (r : Source) (h : Reads (for_guess from g) r words) where
-  module _ {x : Outline} (told : r ≡ Accepted x) where
+  module _ {x : Outline} (told : r ≡ Ok x) where
     outlines : Outlines x words
     outlines = outlined (for_guess from g) words r h told
 
@@ -61,8 +60,8 @@ module _ (from : Returned Setting) (g : ℕ) (words : List ℕ) (r : Source) (h 
         let most : 2 ^ k (setting_in x words) ≤ 2 ^ most_negations = pow_mono (subst (λ n. n ≤ most_negations) outlines.counted outlines.few_negations) in
         omega (arith, l, most)
 
-    pub judged_as_lem : {v u : Answer} → verdict_of v ≡ verdict (setting_in x words) g → v ≡ u → accepted (verdict_of u) ≡ verdict_call from g
-    judged_as_lem is same = ap (λ z. accepted (verdict_of z)) (sym same) ∙ ap accepted is ∙ sym (verdict_is from g guess_of)
+    pub judged_so : (v : Answer) → verdict_of v ≡ verdict (setting_in x words) g → accepted (verdict_of v) ≡ verdict_call from g
+    judged_so v is = ap accepted is ∙ sym (verdict_is from g guess_of)
 
     module _ (w : List ℕ) (believed : w ≡ belief_sets (setting_in x words) g) (room : ℕ) where
       returns : belief_sets_call from g room ≡ sets_into room w
@@ -74,19 +73,19 @@ module _ (from : Returned Setting) (g : ℕ) (words : List ℕ) (r : Source) (h 
       pub too_short : room < length w → belief_sets_call from g room ≡ refusal 9 (length w)
       too_short l = returns ∙ short_limited _ room _ w l
 
-  module _ {number place : ℕ} (told : r ≡ Refused number place) where
-    turned_back : for_guess from g ≡ refusal number place
+  module _ {q : Refusal} (told : r ≡ Err q) where
+    turned_back : for_guess from g ≡ refusal (number_of q.reason) q.place
     turned_back = reads_refused (for_guess from g) words r h told
 
-    pub verdict_turned_back : refusal number place ≡ verdict_call from g
-    verdict_turned_back = sym ((verdict_refused from g number place).1 turned_back)
+    pub verdict_turned_back : refusal (number_of q.reason) q.place ≡ verdict_call from g
+    verdict_turned_back = sym ((verdict_refused from g (number_of q.reason) q.place).1 turned_back)
 
-    pub sets_turned_back : (room : ℕ) → belief_sets_call from g room ≡ refusal number place
-    sets_turned_back room = (sets_refused from g room number place).1 (inl turned_back)
+    pub sets_turned_back : (room : ℕ) → belief_sets_call from g room ≡ refusal (number_of q.reason) q.place
+    sets_turned_back room = (sets_refused from g room (number_of q.reason) q.place).1 (inl turned_back)
 
 -- ---- the query of an atom: r is what was read, with the atom judged
 module _ (from : Returned Setting) (a : ℕ) (words : List ℕ) (r : Source) (h : Reads (for_atom from a) r words) where
-  module _ {x : Outline} (told : r ≡ Accepted x) where
+  module _ {x : Outline} (told : r ≡ Ok x) where
     atom_of_lem : AtomOf from a (setting_in x words)
     atom_of_lem = (for_atom_accepted from a _).0 (reads_accepted (for_atom from a) words r h told).1
 
@@ -98,12 +97,12 @@ module _ (from : Returned Setting) (a : ℕ) (words : List ℕ) (r : Source) (h 
     answers-query vs whole =
         ap (λ z. accepted (answer_by z a)) whole ∙ sym (query_is from a atom_of_lem)
 
-  pub query_turned_back : {number place : ℕ} → r ≡ Refused number place → refusal number place ≡ query_call from a
+  pub query_turned_back : {q : Refusal} → r ≡ Err q → refusal (number_of q.reason) q.place ≡ query_call from a
   query_turned_back told = sym ((query_refused from a _ _).1 (reads_refused (for_atom from a) words r h told))
 
 -- ---- the listing: r is what was read
 module _ (from : Returned Setting) (words : List ℕ) (r : Source) (h : Reads from r words) (room : ℕ) where
-  module _ {x : Outline} (told : r ≡ Accepted x) (t : Tally) (vs : List View) (counts : t ≡ tally_of (setting_in x words)) (views : vs ≡ listing (setting_in x words)) where
+  module _ {x : Outline} (told : r ≡ Ok x) (t : Tally) (vs : List View) (counts : t ≡ tally_of (setting_in x words)) (views : vs ≡ listing (setting_in x words)) where
     abbrev pub found : Result
     found = record { tally = t; views = vs }
 
@@ -118,7 +117,7 @@ module _ (from : Returned Setting) (words : List ℕ) (r : Source) (h : Reads fr
     pub list_short : room < 4 * length vs → list_call from room ≡ refusal 9 (length vs)
     list_short l = lists ∙ short_limited _ room _ found l
 
-  pub list_turned_back : {number place : ℕ} → r ≡ Refused number place → list_call from room ≡ refusal number place
+  pub list_turned_back : {q : Refusal} → r ≡ Err q → list_call from room ≡ refusal (number_of q.reason) q.place
   list_turned_back told = (list_refused records_need from room _ _).1 (inl (reads_refused from words r h told))
 
 -- ---- the answer and the lent buffer
@@ -130,38 +129,38 @@ module _ {A B : Type 0} (of : A → B) (words : A → List ℕ) {r : Returned A}
   filled e says d = (ap accepted (sym says) ∙ sym (ap (answer of) e), d ∙ sym (ap (λ q. afterwards words q buffer) e))
 
 -- ---- what the calls ensure, with the demands that follow
-pub check-met : (sheet : List ℕ) → ((i : ℕ) → byte_at sheet i < 256) → (r : Checked) → checked r ≡ check sheet → (checked r ≡ check sheet) × CheckDemand sheet r
+pub check-met : (sheet : List ℕ) → ((i : ℕ) → byte_at sheet i < 256) → (r : OrRefused Checked) → checked r ≡ check sheet → (checked r ≡ check sheet) × CheckDemand sheet r
 check-met sheet small r e = (e, check_demand sheet (places_bytes sheet small) r e)
 
 module _ (sheet : List ℕ) (ins outs : ℕ) where
   abbrev from : Returned Setting
   from = of_day sheet ins outs
 
-  pub verdict-met : (g : ℕ) (v : Judged) → judged v ≡ verdict_call from g
+  pub verdict-met : (g : ℕ) (v : OrRefused Answer) → judged v ≡ verdict_call from g
       → (judged v ≡ verdict_call from g) × (VerdictDemand from g v × VerdictDay sheet ins outs g v)
   verdict-met g v e = (e, (verdict_demand from g v e, verdict_day sheet ins outs g v e))
 
-  pub sets-met : (g : ℕ) (before : List ℕ) (r : Counted) (after : List ℕ) → AsCounted from g r before after
+  pub sets-met : (g : ℕ) (before : List ℕ) (r : OrRefused ℕ) (after : List ℕ) → AsCounted from g r before after
       → (counted r ≡ answer length (belief_sets_call from g (length before)))
       × ((after ≡ afterwards (λ w. w) (belief_sets_call from g (length before)) before) × (SetsDemand from g r before after × (SetsDay sheet ins outs g r before after × SetsOpposites sheet r after)))
   sets-met g before r after p =
       let demand = sets_demand from g r before after p.0 p.1 in
       (p.0, (p.1, (demand, (sets_day sheet ins outs g r before after p, sets-opposites sheet ins outs g r before after demand))))
 
-  pub query-met : (a : ℕ) (q : Queried) → queried q ≡ query_call from a → (queried q ≡ query_call from a) × (QueryDemand from a q × QueryDay sheet ins outs a q)
+  pub query-met : (a : ℕ) (q : OrRefused Queried) → queried q ≡ query_call from a → (queried q ≡ query_call from a) × (QueryDemand from a q × QueryDay sheet ins outs a q)
   query-met a q e = (e, (query_demand from a q e, query_day sheet ins outs a q e))
 
-  pub listing-met : (before : List ℕ) (r : Listed) (after : List ℕ) → AsListed from r before after
+  pub listing-met : (before : List ℕ) (r : OrRefused Counts) (after : List ℕ) → AsListed from r before after
       → (listed r ≡ answer (λ v. v.tally) (list_call from (length before)))
       × ((after ≡ afterwards records_of (list_call from (length before)) before) × (ListingDemand from r before after × ListingDay sheet ins outs r before after))
   listing-met before r after p = (p.0, (p.1, (listing_demand from r before after p.0 p.1, listing_day sheet ins outs r before after p)))
 
-pub minute_met : (sheet calendar : List ℕ) (minute : ℕ) (before : List ℕ) (r : Listed) (after : List ℕ) → AsListed (of_minute sheet calendar minute) r before after
+pub minute_met : (sheet calendar : List ℕ) (minute : ℕ) (before : List ℕ) (r : OrRefused Counts) (after : List ℕ) → AsListed (of_minute sheet calendar minute) r before after
     → (listed r ≡ answer (λ v. v.tally) (list_call (of_minute sheet calendar minute) (length before)))
     × ((after ≡ afterwards records_of (list_call (of_minute sheet calendar minute) (length before)) before) × MinuteDemand sheet calendar minute r before after)
 minute_met sheet calendar minute before r after p = (p.0, (p.1, minute_demand sheet calendar minute r before after p))
 
-pub changes-met : (sheet calendar before : List ℕ) (r : Counted) (after : List ℕ)
+pub changes-met : (sheet calendar before : List ℕ) (r : OrRefused ℕ) (after : List ℕ)
     → (counted r ≡ answer length (changes_call sheet calendar (length before))) × (after ≡ afterwards (λ w. w) (changes_call sheet calendar (length before)) before)
     → (counted r ≡ answer length (changes_call sheet calendar (length before)))
     × ((after ≡ afterwards (λ w. w) (changes_call sheet calendar (length before)) before) × ChangesDemand sheet calendar r before after)

@@ -9,12 +9,11 @@ use Rattle.semantics.specs.Theorems.Returned.{fits_limited, short_limited}
 use Rattle.semantics.proofs.Theorems.CalendarCalls.{changes-given}
 use Rattle.sheet.specs.declared.Contents.{Contents}
 use Rattle.calendar.specs.Entries.{entries_in}
-use Rattle.source.specs.declared.minute.Scheduled.{Scheduled}
-use Rattle.source.specs.declared.minute.Scheduled.TheVariants.{Accepted}
-use Rattle.source.specs.Sources.{ReadsBoth}
+use Rattle.std.specs.Prelude.{Ok}
+use Rattle.source.specs.Sources.{Scheduled, ReadsBoth}
 use Rattle.source.proofs.Calendars.{sheet-said, entries_read, accepts, is, same_entries}
 
-module _ (s c entries : List ℕ) (r : Scheduled) (h : ReadsBoth s c r entries) {x : Contents} {n : ℕ} (told : r ≡ Accepted x n) (minutes : List ℕ)
+module _ (s c entries : List ℕ) (r : Scheduled) (h : ReadsBoth s c r entries) {x : Contents} {n : ℕ} (told : r ≡ Ok (x, n)) (minutes : List ℕ)
     (listed : minutes ≡ minutes_of_change (entries_in entries n) x.rules) (room : ℕ) where
   all_minutes : minutes_of_change (entries_read s c entries r h told) (length (sheet-said s c entries r h told).rules) ≡ minutes
   all_minutes = sym (listed ∙ ap₂ minutes_of_change (same_entries s c entries r h told) (ap (λ z. z.rules) (is s c entries r h told)))

@@ -11,36 +11,31 @@ use Rattle.semantics.proofs.Theorems.ListCall.{list_refused}
 use Rattle.semantics.proofs.Theorems.QueryCall.{for_atom_refused, query_refused}
 use Rattle.semantics.specs.Theorems.DayCall.{DayDemand}
 use Rattle.semantics.proofs.Theorems.DayCall.{day_demand}
-use Rattle.engine.specs.declared.Judged.{Judged}
-use Rattle.engine.specs.declared.Judged.TheVariants as judgements
-use Rattle.engine.specs.declared.Counted.{Counted}
-use Rattle.engine.specs.declared.Counted.TheVariants as counts
-use Rattle.engine.specs.declared.Listed.{Listed}
-use Rattle.engine.specs.declared.Listed.TheVariants as listings
+use Rattle.answers.specs.declared.tally.Tally.{Tally as Counts}
+use Rattle.verdict.specs.declared.Verdict.{Verdict}
 use Rattle.engine.specs.declared.Queried.{Queried}
-use Rattle.engine.specs.declared.Queried.TheVariants as queries
-use Rattle.engine.specs.Answers.{judged, counted, listed, queried}
+use Rattle.engine.specs.Answers.{OrRefused, judged, counted, listed, queried}
 use Rattle.engine.specs.Demand2.{verdict_demand, sets_demand}
 use Rattle.engine.specs.Demand3.{AsListed, listing_demand}
 use Rattle.engine.specs.Queries.{query_demand}
 
 -- r is what `belief_sets` answers of that source where it is lent `before`, and leaves `after`
-abbrev pub AsCounted : (from : Returned Setting) (g : ℕ) → Counted → (before after : List ℕ) → Type 0
+abbrev pub AsCounted : (from : Returned Setting) (g : ℕ) → OrRefused ℕ → (before after : List ℕ) → Type 0
 AsCounted from g r before after =
     (counted r ≡ answer length (belief_sets_call from g (length before))) × (after ≡ afterwards (λ w. w) (belief_sets_call from g (length before)) before)
 
 module _ (sheet : List ℕ) (ins outs : ℕ) where
-  abbrev pub VerdictDay : (g : ℕ) → Judged → Type 0
-  VerdictDay g v = DayDemand sheet ins outs (λ from. judged v ≡ verdict_call from g) (λ number place. v ≡ judgements.Refused number place)
+  abbrev pub VerdictDay : (g : ℕ) → OrRefused Verdict → Type 0
+  VerdictDay g v = DayDemand sheet ins outs (λ from. judged v ≡ verdict_call from g) (λ number place. judged v ≡ refusal number place)
 
-  abbrev pub SetsDay : (g : ℕ) → Counted → (before after : List ℕ) → Type 0
-  SetsDay g r before after = DayDemand sheet ins outs (λ from. AsCounted from g r before after) (λ number place. r ≡ counts.Refused number place)
+  abbrev pub SetsDay : (g : ℕ) → OrRefused ℕ → (before after : List ℕ) → Type 0
+  SetsDay g r before after = DayDemand sheet ins outs (λ from. AsCounted from g r before after) (λ number place. counted r ≡ refusal number place)
 
-  abbrev pub ListingDay : Listed → (before after : List ℕ) → Type 0
-  ListingDay r before after = DayDemand sheet ins outs (λ from. AsListed from r before after) (λ number place. r ≡ listings.Refused number place)
+  abbrev pub ListingDay : OrRefused Counts → (before after : List ℕ) → Type 0
+  ListingDay r before after = DayDemand sheet ins outs (λ from. AsListed from r before after) (λ number place. listed r ≡ refusal number place)
 
-  abbrev pub QueryDay : (a : ℕ) → Queried → Type 0
-  QueryDay a q = DayDemand sheet ins outs (λ from. queried q ≡ query_call from a) (λ number place. q ≡ queries.Refused number place)
+  abbrev pub QueryDay : (a : ℕ) → OrRefused Queried → Type 0
+  QueryDay a q = DayDemand sheet ins outs (λ from. queried q ≡ query_call from a) (λ number place. queried q ≡ refusal number place)
 
   -- ---- proofs: 13 is none of 8, 9 and 10
   abbrev source : Returned Setting
@@ -49,31 +44,31 @@ module _ (sheet : List ℕ) (ins outs : ℕ) where
   guess_thirteen : (g : ℕ) {place : ℕ} → for_guess source g ≡ refusal 13 place → source ≡ refusal 13 place
   guess_thirteen g e = ⊎_elim (λ d. d) (λ (s, d, l, n, q). absurd (omega arith)) ((for_guess_refused source g _ _).0 e)
 
-  pub verdict_day : (g : ℕ) (v : Judged) → judged v ≡ verdict_call source g → VerdictDay g v
+  pub verdict_day : (g : ℕ) (v : OrRefused Verdict) → judged v ≡ verdict_call source g → VerdictDay g v
   verdict_day g v answered =
-      day_demand sheet ins outs (λ from. judged v ≡ verdict_call from g) (λ number place. v ≡ judgements.Refused number place) answered
+      day_demand sheet ins outs (λ from. judged v ≡ verdict_call from g) (λ number place. judged v ≡ refusal number place) answered
       (verdict_demand source g v answered).refused_before
-      (λ place e. guess_thirteen g ((verdict_refused source g 13 place).0 (sym answered ∙ ap judged e)))
+      (λ place e. guess_thirteen g ((verdict_refused source g 13 place).0 (sym answered ∙ e)))
 
-  pub sets_day : (g : ℕ) (r : Counted) (before after : List ℕ) → AsCounted source g r before after → SetsDay g r before after
+  pub sets_day : (g : ℕ) (r : OrRefused ℕ) (before after : List ℕ) → AsCounted source g r before after → SetsDay g r before after
   sets_day g r before after p =
-      day_demand sheet ins outs (λ from. AsCounted from g r before after) (λ number place. r ≡ counts.Refused number place) p
+      day_demand sheet ins outs (λ from. AsCounted from g r before after) (λ number place. counted r ≡ refusal number place) p
       (sets_demand source g r before after p.0 p.1).refused_before
       (λ place e.
       ⊎_elim (guess_thirteen g) (λ (s, h, l, n, q). absurd (omega arith))
-      ((sets_refused source g (length before) 13 place).0 (answer_refused length (belief_sets_call source g (length before)) (sym p.0 ∙ ap counted e))))
+      ((sets_refused source g (length before) 13 place).0 (answer_refused length (belief_sets_call source g (length before)) (sym p.0 ∙ e))))
 
-  pub listing_day : (r : Listed) (before after : List ℕ) → AsListed source r before after → ListingDay r before after
+  pub listing_day : (r : OrRefused Counts) (before after : List ℕ) → AsListed source r before after → ListingDay r before after
   listing_day r before after p =
-      day_demand sheet ins outs (λ from. AsListed from r before after) (λ number place. r ≡ listings.Refused number place) p
+      day_demand sheet ins outs (λ from. AsListed from r before after) (λ number place. listed r ≡ refusal number place) p
       (listing_demand source r before after p.0 p.1).refused_before
       (λ place e.
       ⊎_elim (λ d. d) (λ (s, h, l, n, q). absurd (omega arith))
-      ((list_refused records_need source (length before) 13 place).0 (answer_refused (λ v. v.tally) (list_call source (length before)) (sym p.0 ∙ ap listed e))))
+      ((list_refused records_need source (length before) 13 place).0 (answer_refused (λ v. v.tally) (list_call source (length before)) (sym p.0 ∙ e))))
 
-  pub query_day : (a : ℕ) (q : Queried) → queried q ≡ query_call source a → QueryDay a q
+  pub query_day : (a : ℕ) (q : OrRefused Queried) → queried q ≡ query_call source a → QueryDay a q
   query_day a q answered =
-      day_demand sheet ins outs (λ from. queried q ≡ query_call from a) (λ number place. q ≡ queries.Refused number place) answered
+      day_demand sheet ins outs (λ from. queried q ≡ query_call from a) (λ number place. queried q ≡ refusal number place) answered
       (query_demand source a q answered).refused_before
       (λ place e.
-      ⊎_elim (λ d. d) (λ (s, d, l, n, q). absurd (omega arith)) ((for_atom_refused source a 13 place).0 ((query_refused source a 13 place).0 (sym answered ∙ ap queried e))))
+      ⊎_elim (λ d. d) (λ (s, d, l, n, q). absurd (omega arith)) ((for_atom_refused source a 13 place).0 ((query_refused source a 13 place).0 (sym answered ∙ e))))

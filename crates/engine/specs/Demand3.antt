@@ -13,12 +13,11 @@ use Rattle.semantics.proofs.Theorems.Listing.{views_of, listing_long, listing-ma
 use Rattle.semantics.specs.Theorems.Records.{RecordsOf}
 use Rattle.semantics.proofs.Theorems.Records.{of_records, words_long}
 use Rattle.semantics.proofs.Theorems.ListCall.{result-given, result_says, list_refused}
-use Rattle.engine.specs.declared.Listed.{Listed}
-use Rattle.engine.specs.declared.Listed.TheVariants.{Refused}
-use Rattle.engine.specs.Answers.{listed, listed_fixed}
+use Rattle.answers.specs.declared.tally.Tally.{Tally as Counts}
+use Rattle.engine.specs.Answers.{OrRefused, listed}
 
 -- r is the answer of a listing of that source where it is lent `before`, and leaves `after`
-abbrev pub AsListed : (from : Returned Setting) → Listed → (before after : List ℕ) → Type 0
+abbrev pub AsListed : (from : Returned Setting) → OrRefused Counts → (before after : List ℕ) → Type 0
 AsListed from r before after =
     (listed r ≡ answer (λ v. v.tally) (list_call from (length before))) × (after ≡ afterwards records_of (list_call from (length before)) before)
 
@@ -35,18 +34,18 @@ pub record RecordsWritten (from : Returned Setting) (t : Tally) (before after : 
   pub tally : TallyOf of t
 
 -- r is what a listing answers where it is lent `before`, and leaves `after`. The call's source is `from`: a setting, or the refusal that comes before.
-pub record ListingDemand (from : Returned Setting) (r : Listed) (before after : List ℕ) : Type 0 where
+pub record ListingDemand (from : Returned Setting) (r : OrRefused Counts) (before after : List ℕ) : Type 0 where
   pub listing-written : (t : Tally) → listed r ≡ accepted t → RecordsWritten from t before after
   -- a refusal that comes before is the answer; else 9 exactly where 4 times views is over the words, with the number of views
-  pub refused_before : (number place : ℕ) → from ≡ refusal number place → r ≡ Refused number place
+  pub refused_before : (number place : ℕ) → from ≡ refusal number place → listed r ≡ refusal number place
   pub views_fit : (s : Setting) → from ≡ accepted s → (n : ℕ) → Number s (WorldView s) n → 4 * n ≤ length before → (t : Tally) × (listed r ≡ accepted t)
-  pub views_too_many : (s : Setting) → from ≡ accepted s → (n : ℕ) → Number s (WorldView s) n → length before < 4 * n → r ≡ Refused 9 n
+  pub views_too_many : (s : Setting) → from ≡ accepted s → (n : ℕ) → Number s (WorldView s) n → length before < 4 * n → listed r ≡ refusal 9 n
   -- "Every lent buffer holds what it held."
-  pub refused_keeps : (number place : ℕ) → r ≡ Refused number place → after ≡ before
+  pub refused_keeps : (number place : ℕ) → listed r ≡ refusal number place → after ≡ before
 
 -- ---- proofs
 -- The two hypotheses are what the call ensures.
-module _ (from : Returned Setting) (r : Listed) (before after : List ℕ)
+module _ (from : Returned Setting) (r : OrRefused Counts) (before after : List ℕ)
     (answers : listed r ≡ answer (λ v. v.tally) (list_call from (length before)))
     (leaves : after ≡ afterwards records_of (list_call from (length before)) before) where
   returned : {q : Returned Result} → list_call from (length before) ≡ q → listed r ≡ answer (λ v. v.tally) q
@@ -72,12 +71,12 @@ module _ (from : Returned Setting) (r : Listed) (before after : List ℕ)
   pub listing_demand : ListingDemand from r before after
   listing_demand = record {
     listing-written = written;
-    refused_before = λ number place e. listed_fixed r _ (returned ((list_refused records_need from (length before) number place).1 (inl e)));
+    refused_before = λ number place e. returned ((list_refused records_need from (length before) number place).1 (inl e));
     views_fit = λ s h n m l.
         (_, returned (result-given records_need from (length before) h ∙ fits_limited _ (length before) _ (result_of s) (subst (λ z. 4 * z ≤ length before) (listing-many s m) l)));
     views_too_many = λ s h n m l.
-        listed_fixed r _ (returned (result-given records_need from (length before) h ∙ short_limited _ (length before) _ (result_of s) (subst (λ z. length before < 4 * z) (listing-many s m) l))
-        ∙ ap (refusal 9) (sym (listing-many s m)));
+        returned (result-given records_need from (length before) h ∙ short_limited _ (length before) _ (result_of s) (subst (λ z. length before < 4 * z) (listing-many s m) l))
+        ∙ ap (refusal 9) (sym (listing-many s m));
     refused_keeps = λ number place e.
-        leaves ∙ ap (λ q. afterwards records_of q before) (answer_refused (λ v. v.tally) (list_call from (length before)) (sym answers ∙ ap listed e));
+        leaves ∙ ap (λ q. afterwards records_of q before) (answer_refused (λ v. v.tally) (list_call from (length before)) (sym answers ∙ e));
   }

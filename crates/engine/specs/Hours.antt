@@ -24,11 +24,8 @@ use Rattle.semantics.specs.Theorems.Changes.{Changes}
 use Rattle.semantics.proofs.Theorems.Changes.{minute_listed, minutes_rise, few_minutes}
 use Rattle.semantics.specs.Theorems.CalendarCalls.{Both, TurnedAway}
 use Rattle.semantics.proofs.Theorems.CalendarCalls.{minute_refused, as_list, empty_calendar, same-between, same_over_close, changes-given, changes_say, changes_refused}
-use Rattle.engine.specs.declared.Listed.{Listed}
-use Rattle.engine.specs.declared.Listed.TheVariants as listings
-use Rattle.engine.specs.declared.Counted.{Counted}
-use Rattle.engine.specs.declared.Counted.TheVariants.{Accepted, Refused}
-use Rattle.engine.specs.Answers.{counted, counted_fixed}
+use Rattle.answers.specs.declared.tally.Tally.{Tally as Counts}
+use Rattle.engine.specs.Answers.{OrRefused, counted, listed}
 use Rattle.engine.specs.Demand3.{AsListed, ListingDemand, listing_demand}
 
 -- which calendars are accepted, and what one that is means
@@ -46,16 +43,16 @@ pub record CalendarDemand (sheet calendar : List ℕ) : Type 0 where
       → (in_force es minute rule ≡ true) ↔ WhereHolds (λ e. Holds e minute) es rule
 
 -- ---- r is what `list_at` answers where it is lent `before`, and leaves `after`
-pub record MinuteDemand (sheet calendar : List ℕ) (minute : ℕ) (r : Listed) (before after : List ℕ) : Type 0 where
+pub record MinuteDemand (sheet calendar : List ℕ) (minute : ℕ) (r : OrRefused Counts) (before after : List ℕ) : Type 0 where
   -- "The whole sheet is checked first, 7 included and with all its rules counted": as `check` refuses it
-  pub sheet-first : (number place : ℕ) → Refuses sheet number place → r ≡ listings.Refused number place
+  pub sheet-first : (number place : ℕ) → Refuses sheet number place → listed r ≡ refusal number place
   -- K7: "a two-section sheet gives 1"
-  pub two-sections : (x : Sheet) (end : ℕ) → two_sections sheet ≡ field x end → r ≡ listings.Refused 1 (length sheet)
+  pub two-sections : (x : Sheet) (end : ℕ) → two_sections sheet ≡ field x end → listed r ≡ refusal 1 (length sheet)
   -- "Then comes the calendar": no count byte, over 64 entries, an entry cut short, a bad entry, extra bytes, each with its number and place
   pub then-calendar : (x : Sheet) (end : ℕ) → opened sheet ≡ field x end → (number place : ℕ) → CalendarRefuses calendar (length x.rules) number place
-      → r ≡ listings.Refused number place
+      → listed r ≡ refusal number place
   -- "12, place 0, for an asked minute over 10079, after the calendar and before 9"
-  pub then_minute : (x : Sheet) (es : List Entry) → Both sheet calendar x es → last_minute < minute → r ≡ listings.Refused 12 0
+  pub then_minute : (x : Sheet) (es : List Entry) → Both sheet calendar x es → last_minute < minute → listed r ≡ refusal 12 0
   -- "Listing at a minute is the listing of the sheet with only the rules in force": what `list` answers on its bytes, and leaves; the pairs
   -- stand "at every minute" (K7)
   pub as_list_answers : (x : Sheet) (es : List Entry) → Both sheet calendar x es → minute ≤ last_minute
@@ -90,22 +87,22 @@ pub record MinutesWritten (sheet calendar : List ℕ) (n : ℕ) (before after : 
   pub few : n ≤ 2 * length entries
 
 -- r is what `changes` answers where it is lent `before`, and leaves `after`
-pub record ChangesDemand (sheet calendar : List ℕ) (r : Counted) (before after : List ℕ) : Type 0 where
+pub record ChangesDemand (sheet calendar : List ℕ) (r : OrRefused ℕ) (before after : List ℕ) : Type 0 where
   pub calendar_demanded : CalendarDemand sheet calendar
-  pub minutes_written : (n : ℕ) → r ≡ Accepted n → MinutesWritten sheet calendar n before after
-  pub sheet-first : (number place : ℕ) → Refuses sheet number place → r ≡ Refused number place
-  pub two-sections : (x : Sheet) (end : ℕ) → two_sections sheet ≡ field x end → r ≡ Refused 1 (length sheet)
+  pub minutes_written : (n : ℕ) → counted r ≡ accepted n → MinutesWritten sheet calendar n before after
+  pub sheet-first : (number place : ℕ) → Refuses sheet number place → counted r ≡ refusal number place
+  pub two-sections : (x : Sheet) (end : ℕ) → two_sections sheet ≡ field x end → counted r ≡ refusal 1 (length sheet)
   pub then-calendar : (x : Sheet) (end : ℕ) → opened sheet ≡ field x end → (number place : ℕ) → CalendarRefuses calendar (length x.rules) number place
-      → r ≡ Refused number place
+      → counted r ≡ refusal number place
   -- "The list of minutes gets 9 with its length when the buffer is short", and only then
   pub too_many : (x : Sheet) (es : List Entry) → Both sheet calendar x es → length before < length (minutes_of_change es (length x.rules))
-      → r ≡ Refused 9 (length (minutes_of_change es (length x.rules)))
+      → counted r ≡ refusal 9 (length (minutes_of_change es (length x.rules)))
   pub enough : (x : Sheet) (es : List Entry) → Both sheet calendar x es → length (minutes_of_change es (length x.rules)) ≤ length before
-      → r ≡ Accepted (length (minutes_of_change es (length x.rules)))
+      → counted r ≡ accepted (length (minutes_of_change es (length x.rules)))
   -- so 128 words are always enough
-  pub always_enough : (x : Sheet) (es : List Entry) → Both sheet calendar x es → 2 * most_entries ≤ length before → (n : ℕ) × (r ≡ Accepted n)
+  pub always_enough : (x : Sheet) (es : List Entry) → Both sheet calendar x es → 2 * most_entries ≤ length before → (n : ℕ) × (counted r ≡ accepted n)
   -- "Every lent buffer holds what it held."
-  pub refused_keeps : (number place : ℕ) → r ≡ Refused number place → after ≡ before
+  pub refused_keeps : (number place : ℕ) → counted r ≡ refusal number place → after ≡ before
 
 -- ---- proofs
 calendar_demand : (sheet calendar : List ℕ) → CalendarDemand sheet calendar
@@ -130,11 +127,11 @@ refuses_calendar : (sheet calendar : List ℕ) (x : Sheet) (end : ℕ) → opene
 refuses_calendar sheet calendar x end o number place h = inr (x, end, o, (calendar_refused_exactly calendar (length x.rules) number place).1 h)
 
 -- The hypothesis is what the call ensures.
-module _ (sheet calendar : List ℕ) (minute : ℕ) (r : Listed) (before after : List ℕ) (answers : AsListed (of_minute sheet calendar minute) r before after) where
+module _ (sheet calendar : List ℕ) (minute : ℕ) (r : OrRefused Counts) (before after : List ℕ) (answers : AsListed (of_minute sheet calendar minute) r before after) where
   demand : ListingDemand (of_minute sheet calendar minute) r before after
   demand = listing_demand (of_minute sheet calendar minute) r before after answers.0 answers.1
 
-  refuses : {number place : ℕ} → of_minute sheet calendar minute ≡ refusal number place → r ≡ listings.Refused number place
+  refuses : {number place : ℕ} → of_minute sheet calendar minute ≡ refusal number place → listed r ≡ refusal number place
   refuses e = demand.refused_before _ _ e
 
   of_source : {from : Returned Setting} → of_minute sheet calendar minute ≡ from → AsListed from r before after
@@ -156,24 +153,24 @@ module _ (sheet calendar : List ℕ) (minute : ℕ) (r : Listed) (before after :
   }
 
 -- The two hypotheses are what the call ensures.
-module _ (sheet calendar : List ℕ) (r : Counted) (before after : List ℕ)
+module _ (sheet calendar : List ℕ) (r : OrRefused ℕ) (before after : List ℕ)
     (counts : counted r ≡ answer length (changes_call sheet calendar (length before)))
     (leaves : after ≡ afterwards (λ w. w) (changes_call sheet calendar (length before)) before) where
-  returned : {q : Returned (List ℕ)} {u : Counted} → changes_call sheet calendar (length before) ≡ q → answer length q ≡ counted u → r ≡ u
-  returned {q} {u} d e = counted_fixed r u (counts ∙ ap (answer length) d ∙ e)
+  returned : {q : Returned (List ℕ)} {u : Returned ℕ} → changes_call sheet calendar (length before) ≡ q → answer length q ≡ u → counted r ≡ u
+  returned d e = counts ∙ ap (answer length) d ∙ e
 
-  turned_back : {number place : ℕ} → TurnedAway sheet calendar number place → r ≡ Refused number place
+  turned_back : {number place : ℕ} → TurnedAway sheet calendar number place → counted r ≡ refusal number place
   turned_back h = returned ((changes_refused sheet calendar (length before) _ _).1 (inl h)) refl
 
   fit : (x : Sheet) (es : List Entry) → Both sheet calendar x es → length (minutes_of_change es (length x.rules)) ≤ length before
-      → r ≡ Accepted (length (minutes_of_change es (length x.rules)))
+      → counted r ≡ accepted (length (minutes_of_change es (length x.rules)))
   fit x es b l =
       let w = minutes_of_change es (length x.rules) in
       returned {q = accepted w} (changes-given sheet calendar (length before) b ∙ fits_limited (length w) (length before) (length w) w l) refl
 
-  written : (n : ℕ) → r ≡ Accepted n → MinutesWritten sheet calendar n before after
+  written : (n : ℕ) → counted r ≡ accepted n → MinutesWritten sheet calendar n before after
   written n e =
-      let (w, d, many) = answer_accepted length (changes_call sheet calendar (length before)) (sym counts ∙ ap counted e) in
+      let (w, d, many) = answer_accepted length (changes_call sheet calendar (length before)) (sym counts ∙ e) in
       let (x, es, b, same, room) = (changes_say sheet calendar (length before) w).0 d in
       let left = leaves ∙ ap (λ q. afterwards (λ z. z) q before) d in
       let first : take n after ≡ w = ap (take n) left ∙ take_at w (drop (length w) before) n many in
@@ -206,5 +203,5 @@ module _ (sheet calendar : List ℕ) (r : Counted) (before after : List ℕ)
         let read = calendar-read calendar (length x.rules) es b.calendar_end b.reads in
         (_, fit x es b (omega (arith, few_minutes es (length x.rules) read.all_proper, read.few_entries)));
     refused_keeps = λ number place e.
-        leaves ∙ ap (λ q. afterwards (λ z. z) q before) (answer_refused length (changes_call sheet calendar (length before)) (sym counts ∙ ap counted e));
+        leaves ∙ ap (λ q. afterwards (λ z. z) q before) (answer_refused length (changes_call sheet calendar (length before)) (sym counts ∙ e));
   }

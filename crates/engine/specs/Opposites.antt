@@ -12,16 +12,16 @@ use Rattle.semantics.proofs.Theorems.Source.{sheet_accepted}
 use Rattle.semantics.proofs.Theorems.DaySource.{masks_accepted}
 use Rattle.semantics.specs.Theorems.Opposites.{NeverBoth}
 use Rattle.semantics.proofs.Theorems.Opposites.{never_both_under}
-use Rattle.engine.specs.declared.Counted.{Counted}
-use Rattle.engine.specs.declared.Counted.TheVariants.{Accepted}
+use Rattle.semantics.specs.Definitions.Returned.{accepted}
+use Rattle.engine.specs.Answers.{OrRefused, counted}
 use Rattle.engine.specs.Demand2.{SetsDemand}
 
 -- no set that is written has both atoms of a pair
-abbrev pub SetsOpposites : (sheet : List ℕ) → Counted → (after : List ℕ) → Type 0
+abbrev pub SetsOpposites : (sheet : List ℕ) → OrRefused ℕ → (after : List ℕ) → Type 0
 SetsOpposites sheet r after =
-    (x : Sheet) (end n : ℕ) → opened sheet ≡ field x end → r ≡ Accepted n → (i : ℕ) → i among take n after → NeverBoth x.pairs i
+    (x : Sheet) (end n : ℕ) → opened sheet ≡ field x end → counted r ≡ accepted n → (i : ℕ) → i among take n after → NeverBoth x.pairs i
 
-pub sets-opposites : (sheet : List ℕ) (ins outs g : ℕ) (r : Counted) (before after : List ℕ) → SetsDemand (of_day sheet ins outs) g r before after
+pub sets-opposites : (sheet : List ℕ) (ins outs g : ℕ) (r : OrRefused ℕ) (before after : List ℕ) → SetsDemand (of_day sheet ins outs) g r before after
     → SetsOpposites sheet r after
 sets-opposites sheet ins outs g r before after demand x end n opens told i m =
     let w = demand.sets-written n told in

@@ -8,8 +8,7 @@ ghost use Rattle.records.specs.Outcomes.{tally_from};
 ghost use Rattle.source.specs.Sources.{Outlined};
 ghost use Rattle.engine.specs.Sources.{Lists};
 
-use super::Listed;
-use answers::Tally;
+use answers::{Reason, Refusal, Tally};
 use guess::outline::Outline;
 use listing::walk;
 use order::guesses;
@@ -29,31 +28,20 @@ pub fn list_in_order(words: &[u16], x: Outline, records: &mut [u16]) -> Tally
 }
 
 // The listing of what was read, into a lent buffer, and the six counts: the refusal that came before, or 9.
-pub fn list_from(source: Source, words: &[u16], out: &mut [u16]) -> Listed
+pub fn list_from(source: Source, words: &[u16], out: &mut [u16]) -> Result<Tally, Refusal>
     requires { Outlined source words.now }
     ensures out_len_unchanged { length out.new ≡ length out.old }
     ensures lists { Lists source words.now result out.old out.new }
 {
-    match source {
-        Source::Accepted(x) => {
-            let mut records = [0u16; 16384];
-            let t = list_in_order(words, x, &mut records[..]);
-            if out.len() < 4 * t.views {
-                return Listed::Refused {
-                    number: 9,
-                    place: t.views,
-                };
-            }
-            write_records(&records[..], t.views, &mut out[..]);
-            Listed::Accepted {
-                views: t.views,
-                covered: t.covered,
-                ruled: t.ruled,
-                tested: t.tested,
-                empty: t.empty,
-                other: t.other,
-            }
-        }
-        Source::Refused(number, place) => Listed::Refused { number, place },
+    let x = source?;
+    let mut records = [0u16; 16384];
+    let t = list_in_order(words, x, &mut records[..]);
+    if out.len() < 4 * t.views {
+        return Err(Refusal {
+            reason: Reason::ShortBuffer,
+            place: t.views,
+        });
     }
+    write_records(&records[..], t.views, &mut out[..]);
+    Ok(t)
 }

@@ -7,9 +7,7 @@ pub fn write(words: &[u16], n: usize, out: &mut [u16])
     requires { (n ≤ length words.now) × (n ≤ length out.old) }
     ensures { out.new ≡ written (take n words.now) out.old }
 {
-    let mut i = 0;
-    while i < n {
+    for i in 0..n {
         out[i] = words[i];
-        i += 1;
     }
 }

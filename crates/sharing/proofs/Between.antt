@@ -3,7 +3,7 @@ use Prim.Native.Nat.{ℕ, ◌+◌, ◌≤◌, ◌<◌}
 use mathlib.Core.Path.{◌≡◌}
 use mathlib.Core.List.{List}
 use lib.ListN.{length}
-use Rattle.source.specs.declared.Source.{Source}
+use Rattle.source.specs.Sources.{Source}
 use Rattle.listing.specs.declared.paused.Paused.{Paused}
 use Rattle.sharing.specs.Held.{AllGo, HasAt, spent_in, Idle}
 use Rattle.sharing.proofs.Served.{Mixed}

@@ -1,6 +1,6 @@
 -- The sheets as they are read, and the whole call. Assumes nothing.
 use Prim.Native.Nat.{ℕ, ◌≤◌, ◌<◌}
-use mathlib.Core.Path.{◌≡◌, refl, sym, ap, ◌∙◌, subst}
+use mathlib.Core.Path.{◌≡◌, refl, sym, ap, ap₂, ◌∙◌, subst}
 use mathlib.Core.List.{List, []}
 use native.Mathlib.Nat.{zero-add}
 use native.Mathlib.Omega.{arith}
@@ -9,20 +9,20 @@ use lib.ListN.{length, get_or, take, length-map}
 use lib.Seq.{length-take-le, get_or-take}
 use Rattle.sets.specs.Lists.{up_to, length-up_to, get_or-up_to}
 use Rattle.semantics.specs.Definitions.Setting.{Setting}
-use Rattle.semantics.specs.Definitions.Returned.{Returned, accepted}
+use Rattle.semantics.specs.Definitions.Returned.{Returned, accepted, refusal}
 use Rattle.semantics.specs.Definitions.Check.{of_sheet}
 use Rattle.semantics.specs.Definitions.Sharing.{shares_of, granted, denied, ◌and_so◌, of_sheets, shares_into, share_call}
 use Rattle.allowance.specs.SheetBySheet.{each_granted, each_denied}
 use Rattle.guess.specs.declared.outline.Outline.{Outline}
-use Rattle.source.specs.declared.Source.{Source}
-use Rattle.source.specs.declared.Source.TheVariants.{Accepted}
+use Rattle.source.specs.Sources.{Source}
+use Rattle.std.specs.Prelude.{Ok, Err}
 use Rattle.source.specs.Sources.{Reads}
 use Rattle.sharing.specs.declared.sheets.Refusal.TheVariants.{None, At}
 use Rattle.sharing.specs.Held.{unread, setting_from, IsRead, setting_at, settings_in, ReadTo, AllRead}
 use Rattle.sharing.specs.Refusals.{AcceptedTo, FirstRefused}
 
 -- a sheet that is accepted has the setting of its words
-reads_setting : (from : Returned Setting) (source : Source) (words : List ℕ) {x : Outline} → source ≡ Accepted x → Reads from source words → (from ≡ accepted (setting_from source words)) × IsRead source words
+reads_setting : (from : Returned Setting) (source : Source) (words : List ℕ) {x : Outline} → source ≡ Ok x → Reads from source words → (from ≡ accepted (setting_from source words)) × IsRead source words
 reads_setting from source words {x} e reads =
     let r = subst (λ z. Reads from z words) e reads in
     (r.1 ∙ ap (λ z. accepted (setting_from z words)) (sym e), subst (λ z. IsRead z words) (sym e) r.0)
@@ -48,9 +48,9 @@ module _ (sources : List Source) (words sheets : List (List ℕ)) (n : ℕ) (few
       is_setting n (omega arith) all q b ∙ ap accepted (sym (get_or-up_to (setting_at sources words) none n q b)))
 
   pub sheets_denied : {number place position : ℕ} → FirstRefused sources n (At number place position) → of_sheets (take n sheets) ≡ denied number place position
-  sheets_denied {number} {place} {position} (h, all, e) =
+  sheets_denied {number} {place} {position} (h, all, (q, e, m, k)) =
       each_denied (λ _ sheet. of_sheet sheet) 0 (take n sheets) [] position number place (omega (arith, h, first_n)) (λ p b. (setting_at sources words p, is_setting position (omega (arith, h)) all p b))
-      (ap of_sheet (get_or-take n sheets position [] h) ∙ subst (λ z. Reads (of_sheet (get_or sheets position [])) z (get_or words position [])) e (read position h))
+      (ap of_sheet (get_or-take n sheets position [] h) ∙ subst (λ z. Reads (of_sheet (get_or sheets position [])) z (get_or words position [])) e (read position h) ∙ ap₂ refusal (sym m) (sym k))
       ∙ ap (denied number place) (zero-add position)
 
 -- ---- the whole call

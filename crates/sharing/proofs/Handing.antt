@@ -16,7 +16,7 @@ use Rattle.semantics.specs.Definitions.Sharing.{tests_of, finished_in, turns_at,
 use Rattle.semantics.specs.Theorems.Returned.{fits_limited, short_limited}
 use Rattle.allowance.specs.SheetBySheet.{each_granted, each_denied}
 use Rattle.allowance.specs.Shares.{shares_long, share-at, share_tests}
-use Rattle.source.specs.declared.Source.{Source}
+use Rattle.source.specs.Sources.{Source}
 use Rattle.listing.specs.declared.paused.Paused.{Paused}
 use Rattle.records.specs.Records.{views_in, views_in_long}
 use Rattle.listing.specs.Pauses.{fresh, waits}

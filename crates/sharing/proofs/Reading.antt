@@ -10,7 +10,7 @@ use lib.Seq.{get_or-set_same, get_or-set_other}
 use Rattle.semantics.specs.Definitions.Check.{of_sheet}
 use Rattle.semantics.specs.Definitions.Day.{of_day}
 use Rattle.semantics.proofs.Theorems.DaySource.{no_masks}
-use Rattle.source.specs.declared.Source.{Source}
+use Rattle.source.specs.Sources.{Source}
 use Rattle.source.specs.Sources.{Reads}
 use Rattle.sharing.specs.Held.{unread, ReadTo}
 

@@ -7,7 +7,7 @@ use native.Mathlib.Omega.{arith}
 use lib.ListN.{length, get_or, take}
 use Rattle.sets.specs.Decides.{decided, dec_eq}
 use Rattle.semantics.specs.Definitions.Sharing.{tests_of, in_all}
-use Rattle.source.specs.declared.Source.{Source}
+use Rattle.source.specs.Sources.{Source}
 use Rattle.listing.specs.declared.paused.Paused.{Paused}
 use Rattle.listing.specs.Pauses.{fresh}
 use Rattle.sharing.specs.Held.{unread, Goes, Has, setting_at, AllGo, HasAt, Near, spent_in, Kept, Turned, Rounded}

@@ -22,8 +22,8 @@ use Rattle.allowance.specs.Allowance.{done, done-had, done_waits, done_spent, do
 use Rattle.allowance.specs.Shares.{many-at, many_long, dec_tests, finished_many}
 use Rattle.order.specs.Table.{table_width}
 use Rattle.order.specs.Ordered.{table_enumerates}
-use Rattle.source.specs.declared.Source.{Source}
-use Rattle.source.specs.declared.Source.TheVariants.{Accepted, Refused}
+use Rattle.source.specs.Sources.{Source}
+use Rattle.std.specs.Prelude.{Ok, Err}
 use Rattle.listing.specs.declared.paused.Paused.{Paused}
 use Rattle.listing.specs.Pauses.{fresh, waits}
 use Rattle.listing.proofs.Reaching.{few_counts, along_start}
@@ -64,17 +64,17 @@ tests_fit s = omega (arith, keep_shorter (tested s) (order_of (k s)), order_long
 
 -- ---- one that is accepted
 pub goes_first : (source : Source) (words order program records : List ℕ) → IsRead source words → Goes source words order fresh program records
-goes_first (Accepted x) words order program records o = along_start x words order program records
-goes_first (Refused number place) words order program records o = o
+goes_first (Ok x) words order program records o = along_start x words order program records
+goes_first (Err q) words order program records o = o
 
 few_guesses : (source : Source) (words : List ℕ) → IsRead source words → k (setting_from source words) ≤ most_negations
-few_guesses (Accepted x) words o = omega (arith, o.counted, o.few_negations)
-few_guesses (Refused number place) words o = absurd o
+few_guesses (Ok x) words o = omega (arith, o.counted, o.few_negations)
+few_guesses (Err q) words o = absurd o
 
 goes_few : (source : Source) (words order : List ℕ) → order ≡ order_of table_width → IsRead source words → (p : Paused) (program records : List ℕ) → Goes source words order p program records
     → (p.tally.views ≤ 2 ^ most_negations) × (p.tally.tested ≤ 2 ^ most_negations)
-goes_few (Accepted x) words order is o p program records along = let few = few_counts order o (table_enumerates is o.few_negations) along in (few.0, few.3)
-goes_few (Refused number place) words order is o p program records along = absurd o
+goes_few (Ok x) words order is o p program records along = let few = few_counts order o (table_enumerates is o.few_negations) along in (few.0, few.3)
+goes_few (Err q) words order is o p program records along = absurd o
 
 -- ---- all of them
 -- those beyond the first n have made no tests

@@ -15,7 +15,7 @@ use Rattle.order.specs.Table.{table_width}
 use Rattle.order.specs.Ordered.{table-members, table_enumerates}
 use Rattle.guess.specs.declared.outline.Outline.{Outline}
 use Rattle.guess.specs.Programs.{setting_in, Outlines}
-use Rattle.source.specs.declared.Source.{Source}
+use Rattle.source.specs.Sources.{Source}
 use Rattle.listing.specs.declared.paused.Paused.{Paused}
 use Rattle.records.specs.Records.{views_in}
 use Rattle.listing.specs.Pauses.{fresh, waits, Along, Stands}

@@ -1,14 +1,12 @@
 -- The sheets of a shared call as the code holds them, by their positions: sources with words, and paused listings with their programs and
 -- records. Assumes nothing.
-use Rattle.std.specs.Prelude.{ℕ, ◌+◌, ◌^◌, ◌≤◌, ◌<◌, ◌≡◌, not, List, [], map, ◌⊎◌, length, get_or, take}
+use Rattle.std.specs.Prelude.{ℕ, ◌+◌, ◌^◌, ◌≤◌, ◌<◌, ◌≡◌, not, List, [], map, ◌⊎◌, length, get_or, take, Ok, Err}
 use Rattle.sets.specs.Lists.{up_to}
 use Rattle.semantics.specs.Definitions.Setting.{Setting, setting_of}
 use Rattle.semantics.specs.Definitions.Check.{most_negations, of_sheet}
 use Rattle.semantics.specs.Definitions.Sharing.{tests_of, met_in, finished_in, in_all, turns_at, paid}
 use Rattle.guess.specs.Programs.{setting_in, Outlines}
-use Rattle.source.specs.declared.Source.{Source}
-use Rattle.source.specs.declared.Source.TheVariants.{Accepted, Refused}
-use Rattle.source.specs.Sources.{Reads}
+use Rattle.source.specs.Sources.{Source, Reads}
 use Rattle.listing.specs.declared.paused.Paused.{Paused}
 use Rattle.records.specs.Records.{views_in}
 use Rattle.listing.specs.Pauses.{fresh, waits, Along}
@@ -16,22 +14,22 @@ use Rattle.listing.specs.Pauses.{fresh, waits, Along}
 -- ---- a sheet
 -- what stands for no sheet
 abbrev pub unread : Source
-unread = Accepted (record { atoms = 0; rules = 0; negations = 0; k_atoms = 0; m_atoms = 0; ins = 0; outs = 0 })
+unread = Ok (record { atoms = 0; rules = 0; negations = 0; k_atoms = 0; m_atoms = 0; ins = 0; outs = 0 })
 
 -- its setting; of a refused one that of no rules, which nobody asks for
 abbrev pub setting_from : Source → (words : List ℕ) → Setting
-setting_from (Accepted x) words = setting_in x words
-setting_from (Refused number place) words = setting_of 0 []
+setting_from (Ok x) words = setting_in x words
+setting_from (Err q) words = setting_of 0 []
 
 -- it is accepted, and the words have its outline
 abbrev pub IsRead : Source → (words : List ℕ) → Type 0
-IsRead (Accepted x) words = Outlines x words
-IsRead (Refused number place) words = ⊥
+IsRead (Ok x) words = Outlines x words
+IsRead (Err q) words = ⊥
 
 -- its listing, paused
 abbrev pub Goes : Source → (words order : List ℕ) → Paused → (program records : List ℕ) → Type 0
-Goes (Accepted x) words order p program records = Along x words order p program records
-Goes (Refused number place) words order p program records = ⊥
+Goes (Ok x) words order p program records = Along x words order p program records
+Goes (Err q) words order p program records = ⊥
 
 -- what it has with t tests spent
 pub record Has (s : Setting) (t : ℕ) (p : Paused) (records : List ℕ) : Type 0 where

@@ -1,8 +1,9 @@
 -- Refusals of a shared call, as the code finds them. Assumes nothing.
-use Rattle.std.specs.Prelude.{ℕ, ◌*◌, ◌≤◌, ◌<◌, ◌≡◌, List, get_or}
+use Rattle.std.specs.Prelude.{ℕ, ◌*◌, ◌≤◌, ◌<◌, ◌≡◌, List, get_or, Ok, Err}
 use Rattle.guess.specs.declared.outline.Outline.{Outline}
-use Rattle.source.specs.declared.Source.{Source}
-use Rattle.source.specs.declared.Source.TheVariants.{Accepted, Refused}
+use Rattle.answers.specs.Refusals.{number_of}
+use Rattle.answers.specs.declared.refusal.Refusal as answers
+use Rattle.source.specs.Sources.{Source}
 use Rattle.listing.specs.declared.paused.Paused.{Paused}
 use Rattle.sharing.specs.declared.sheets.Refusal.{Refusal}
 use Rattle.sharing.specs.declared.sheets.Refusal.TheVariants.{None, At}
@@ -11,12 +12,14 @@ use Rattle.sharing.specs.Held.{unread}
 
 -- the first q are accepted
 abbrev pub AcceptedTo : List Source → ℕ → Type 0
-AcceptedTo sources n = (q : ℕ) → q < n → (x : Outline) × (get_or sources q unread ≡ Accepted x)
+AcceptedTo sources n = (q : ℕ) → q < n → (x : Outline) × (get_or sources q unread ≡ Ok x)
 
 -- the first of the n sheets that is refused
 abbrev pub FirstRefused : List Source → (n : ℕ) → Refusal → Type 0
 FirstRefused sources n None = AcceptedTo sources n
-FirstRefused sources n (At number place position) = (position < n) × AcceptedTo sources position × (get_or sources position unread ≡ Refused number place)
+FirstRefused sources n (At number place position) =
+    (position < n) × AcceptedTo sources position
+    × ((q : answers.Refusal) × (get_or sources position unread ≡ Err q) × (number ≡ number_of q.reason) × (place ≡ q.place))
 
 -- the first q have room for their records
 abbrev pub FitTo : List Paused → (rooms : List ℕ) → ℕ → Type 0

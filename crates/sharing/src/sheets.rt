@@ -3,6 +3,7 @@ ghost use Rattle.std.specs.Prelude.{◌≡◌, [], ◌∷◌, ◌<◌, ◌≤◌
 ghost use Rattle.sharing.specs.Held.{ReadTo};
 ghost use Rattle.sharing.specs.Refusals.{FirstRefused};
 
+use answers::Reason;
 use source::{Source, of_day};
 
 // Sheet p of four.
@@ -35,7 +36,11 @@ pub fn read_sheets<'a>(
     ensures words_len_unchanged { length words.new ≡ length words.old }
     ensures result_len { (length result ≡ 4) × ReadTo result words.new (a.now ∷ b.now ∷ c.now ∷ d.now ∷ []) n }
 {
-    let mut sources = [Source::Refused(0, 0); 4];
+    let unread = Err(answers::Refusal {
+        reason: Reason::BadCount,
+        place: 0,
+    });
+    let mut sources = [unread; 4];
     for p in 0..n {
         let sheet = pick(p, a, b, c, d);
         let source = of_day(sheet, 0, 0, &mut words[p][..]);
@@ -62,10 +67,10 @@ pub fn first_refused(n: usize, sources: [Source; 4]) -> Refusal
 {
     for p in 0..n {
         let source = sources[p];
-        if let Source::Refused(number, place) = source {
+        if let Err(refusal) = source {
             return Refusal::At {
-                number,
-                place,
+                number: refusal.reason.number(),
+                place: refusal.place,
                 position: p,
             };
         }

@@ -32,8 +32,8 @@ fn turn(
     ensures has { Has (setting_from source words.now) t result records.new }
 {
     match source {
-        Source::Accepted(x) => paused.reach(words, x, order, t, &mut program[..], &mut records[..]),
-        Source::Refused(_, _) => paused,
+        Ok(x) => paused.reach(words, x, order, t, &mut program[..], &mut records[..]),
+        Err(_) => paused,
     }
 }
 
@@ -95,8 +95,8 @@ fn to_end(
     ensures has { Has (setting_from source words.now) (2 ^ most_negations) result records.new }
 {
     match source {
-        Source::Accepted(x) => whole(words, x, order, &mut program[..], &mut records[..]),
-        Source::Refused(_, _) => Paused::start(),
+        Ok(x) => whole(words, x, order, &mut program[..], &mut records[..]),
+        Err(_) => Paused::start(),
     }
 }
 

@@ -6,9 +6,9 @@ use mathlib.Core.Path.{◌≡◌, sym, ap, subst, ◌∙◌}
 use mathlib.Core.List.{List, [], ◌∷◌, ◌++◌}
 use Rattle.semantics.specs.Definitions.Reading.{Reading, field, times}
 use Rattle.sheet.specs.declared.steps.Cursor.{Cursor}
-use Rattle.sheet.specs.declared.steps.Field.{Field}
-use Rattle.sheet.specs.declared.steps.Field.TheVariants.{Got, Refused}
-use Rattle.sheet.specs.Steps.{field_of}
+use Rattle.answers.specs.declared.refusal.Refusal.{Refusal}
+use Rattle.std.specs.Prelude.{Err}
+use Rattle.sheet.specs.Steps.{Field, Got, field_of}
 use Rattle.semantics.specs.Theorems.Turns.{starts, goes_on, stops, is_done}
 use Rattle.sheet.proofs.Laws.{was_field, was_refused}
 
@@ -50,10 +50,9 @@ module _ {A : Type 0} (l : Loop A) where
   -- a turn of the code, from the cursor c
   module _ {i : ℕ} {c : Cursor} (reached : Reached i c) (h : i < l.turns) {r : Reading A} (same : r ≡ l.step (l.earlier i) c.at) {f : Field}
       (answered : f ≡ field_of (l.number i) (l.next i c) r) where
-    pub refuses : {k p : ℕ} → f ≡ Refused k p → f ≡ answer
+    pub refuses : {q : Refusal} → f ≡ Err q → f ≡ answer
     refuses told =
-        let e = was_refused (l.number i) (l.next i c) r answered told in
-        told ∙ sym (ap (field_of (λ _. l.whole) l.last) (stops l.step l.turns i c.at (l.earlier i) reached.left h (sym same ∙ e)))
+        was_refused (l.number i) (l.next i c) r answered (λ _ _ e. sym (ap (field_of (λ _. l.whole) l.last) (stops l.step l.turns i c.at (l.earlier i) reached.left h (sym same ∙ e)))) told
 
     pub turned : {v : ℕ} {c' : Cursor} → f ≡ Got v c' → Reached (i + 1) c'
     turned {v} {c'} told =

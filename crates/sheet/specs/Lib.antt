@@ -1,3 +1,4 @@
 -- What the answers of the code mean.
+pub mod Refused
 pub mod Steps
 pub mod Opened

@@ -1,5 +1,6 @@
 -- What opening a sheet answers, and what the answer says. Assumes nothing.
-use Rattle.std.specs.Prelude.{ℕ, ◌≡◌, refl, List, length}
+use Rattle.std.specs.Prelude.{ℕ, ◌≡◌, refl, List, length, Result, Ok, Err}
+use Rattle.std.proofs.Common.{⊎_elim, arith, sym, ap, ◌∙◌}
 use Rattle.sets.specs.Decides.{unequal}
 use Rattle.semantics.specs.Definitions.Reading.{Reading, field, refused}
 use Rattle.semantics.specs.Definitions.Sheet.{Sheet, atoms}
@@ -7,8 +8,10 @@ use Rattle.semantics.specs.Definitions.Setting.{k}
 use Rattle.semantics.specs.Definitions.Check.{setting, opened}
 use Rattle.semantics.specs.Fields.{k_atoms, m_atoms}
 use Rattle.sheet.specs.declared.Contents.{Contents}
-use Rattle.sheet.specs.declared.Opened.{Opened}
-use Rattle.sheet.specs.declared.Opened.TheVariants.{Accepted, Refused}
+use Rattle.answers.specs.Refusals.{number_of, reason_of}
+use Rattle.answers.specs.declared.refusal.Refusal.{Refusal}
+use Rattle.semantics.proofs.Theorems.Places.{refusal_number}
+use Rattle.sheet.specs.Refused.{refusal_of, numbered}
 
 -- what is kept of an accepted sheet
 abbrev pub contents : Sheet → Contents
@@ -23,17 +26,26 @@ contents x = record {
 }
 
 -- a reading of the sheet as the answer of `open`
-abbrev pub opened_of : Reading Sheet → Opened
-opened_of (field x end) = Accepted (contents x)
-opened_of (refused number place) = Refused number place
+abbrev pub opened_of : Reading Sheet → Result Contents Refusal
+opened_of (field x end) = Ok (contents x)
+opened_of (refused number place) = Err (refusal_of number place)
 
-pub opened_as : (r : Reading Sheet) {x : Contents} → opened_of r ≡ Accepted x → (y : Sheet) × (end : ℕ) × (r ≡ field y end) × (x ≡ contents y)
+pub opened_as : (r : Reading Sheet) {x : Contents} → opened_of r ≡ Ok x → (y : Sheet) × (end : ℕ) × (r ≡ field y end) × (x ≡ contents y)
 opened_as (field y end) e = (y, end, refl, cc)
 opened_as (refused number place) e = unequal cc
 
-pub opened_refused : (r : Reading Sheet) {number place : ℕ} → opened_of r ≡ Refused number place → r ≡ refused number place
-opened_refused (field x end) e = unequal cc
-opened_refused (refused n p) e = cc
+-- the number and the place of a refusal are the reading's
+module _ (s : List ℕ) where
+  refused_as : (r : Reading Sheet) {q : Refusal} → opened s ≡ r → opened_of r ≡ Err q → opened s ≡ refused (number_of q.reason) q.place
+  refused_as (field x end) o e = unequal cc
+  refused_as (refused n p) {q} o e =
+      let same : refusal_of n p ≡ q = cc in
+      let one : number_of (reason_of n) ≡ n =
+      ⊎_elim (λ b. numbered n b.0 (omega (arith, b.1))) (λ b. numbered n (omega (arith, b)) (omega (arith, b))) (refusal_number s n p o) in
+      o ∙ (λ i. refused (sym one i) p) ∙ ap (λ z. refused (number_of z.reason) z.place) same
+
+  pub opened_refused : {q : Refusal} → opened_of (opened s) ≡ Err q → opened s ≡ refused (number_of q.reason) q.place
+  opened_refused e = refused_as (opened s) refl e
 
 -- x is kept of the accepted sheet that the bytes are
 abbrev pub Holds : List ℕ → Contents → Type 0

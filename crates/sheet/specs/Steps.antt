@@ -1,13 +1,25 @@
 -- The answers of the reading steps, from what document 01 says that a reading answers.
-use Rattle.std.specs.Prelude.{ℕ, cond, length}
+use Rattle.std.specs.Prelude.{ℕ, cond, length, Result, Ok, Err}
 use mathlib.Core.List.{List, foldl}
 use Rattle.sets.specs.Sets.{◌∪◌}
 use Rattle.semantics.specs.Definitions.Reading.{Reading, field, refused}
 use Rattle.semantics.specs.Definitions.Sheet.{Opposites, Sheet, atoms, between}
 use Rattle.semantics.specs.Fields.{masks_of, k_atoms, m_atoms}
 use Rattle.sheet.specs.declared.steps.Cursor.{Cursor}
-use Rattle.sheet.specs.declared.steps.Field.{Field}
-use Rattle.sheet.specs.declared.steps.Field.TheVariants.{Got, Refused}
+use Rattle.answers.specs.declared.refusal.Refusal.{Refusal}
+use Rattle.sheet.specs.Refused.{refusal_of}
+
+-- what a step answers: the code's `Field`
+abbrev pub Field : Type 0
+Field = Result (ℕ × Cursor) Refusal
+
+-- a field and the cursor after it
+abbrev pub Got : ℕ → Cursor → Field
+Got number next = Ok (number, next)
+
+-- the refusal of that number and place
+abbrev pub Refused : (number place : ℕ) → Field
+Refused number place = Err (refusal_of number place)
 
 -- A reading as a step's answer: a field by the number that the code answers for it and the cursor after it, or the refusal.
 abbrev pub field_of : {A : Type 0} → (A → ℕ) → (A → ℕ → Cursor) → Reading A → Field

@@ -4,6 +4,7 @@ ghost use Rattle.semantics.specs.Definitions.Sheet.{count_at, word_at};
 ghost use Rattle.sheet.specs.Steps.{field_of, moved};
 
 use super::steps::{Cursor, Field};
+use answers::{Reason, Refusal};
 
 // Are the n bytes from a place there?
 pub fn present(s: &[u8], at: usize, n: usize) -> bool
@@ -25,13 +26,17 @@ pub fn count(s: &[u8], limit: usize, c: Cursor) -> Field
     if present(s, at, 1) {
         let n = s[at] as usize;
         if limit < n {
-            return Field::Refused(2, at);
+            return Err(Refusal {
+                reason: Reason::OverLimit,
+                place: at,
+            });
         }
-        let mut next = c;
-        next.at = at + 1;
-        return Field::Got(n, next);
+        return Ok((n, Cursor { at: at + 1, ..c }));
     }
-    Field::Refused(1, s.len())
+    Err(Refusal {
+        reason: Reason::EndsTooSoon,
+        place: s.len(),
+    })
 }
 
 // The two bytes at a place, the low one first.

@@ -12,10 +12,10 @@ ghost use Rattle.std.specs.Prelude.{◌≡◌};
 ghost use Rattle.semantics.specs.Definitions.Check.{opened};
 ghost use Rattle.sheet.specs.Opened.{opened_of};
 
+use answers::{Reason, Refusal};
 pub use fields::{present, word};
 use sections::sections as read_sections;
 use sets::size;
-use steps::Field;
 
 // What is kept of an accepted sheet.
 #[derive(Clone, Copy)]
@@ -31,33 +31,25 @@ pub struct Contents {
     pub m_atoms: u16,
 }
 
-// What opening a sheet answers.
-#[derive(Clone, Copy)]
-pub enum Opened {
-    Accepted(Contents),
-    Refused(u8, usize),
-}
-
 // The sheet, if it is accepted.
-pub fn open(s: &[u8]) -> Opened
+pub fn open(s: &[u8]) -> Result<Contents, Refusal>
     ensures { result ≡ opened_of (opened s.now) }
 {
-    match read_sections(s) {
-        Field::Got(_, c) => {
-            let k = size(c.k_atoms) + size(c.m_atoms);
-            if 12 < k {
-                return Opened::Refused(7, 0);
-            }
-            Opened::Accepted(Contents {
-                atoms: c.atoms,
-                rules: c.rules,
-                pairs: c.pairs,
-                negations: k as usize,
-                rules_at: c.rules_at,
-                k_atoms: c.k_atoms,
-                m_atoms: c.m_atoms,
-            })
-        }
-        Field::Refused(number, place) => Opened::Refused(number, place),
+    let (_, c) = read_sections(s)?;
+    let k = size(c.k_atoms) + size(c.m_atoms);
+    if 12 < k {
+        return Err(Refusal {
+            reason: Reason::ManyNegations,
+            place: 0,
+        });
     }
+    Ok(Contents {
+        atoms: c.atoms,
+        rules: c.rules,
+        pairs: c.pairs,
+        negations: k as usize,
+        rules_at: c.rules_at,
+        k_atoms: c.k_atoms,
+        m_atoms: c.m_atoms,
+    })
 }

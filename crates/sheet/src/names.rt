@@ -8,6 +8,7 @@ ghost use Rattle.sheet.specs.Steps.{field_of, moved};
 
 use super::fields::present;
 use super::steps::{Cursor, Field};
+use answers::{Reason, Refusal};
 
 // May b be byte i of a name?
 fn name_byte(i: usize, b: u8) -> bool
@@ -37,12 +38,13 @@ fn name_bytes(s: &[u8], n: usize, c: Cursor) -> Field
     for i in 0..n {
         let at = from + i;
         if !name_byte(i, s[at]) {
-            return Field::Refused(3, at);
+            return Err(Refusal {
+                reason: Reason::BadName,
+                place: at,
+            });
         }
     }
-    let mut next = c;
-    next.at = from + n;
-    Field::Got(n, next)
+    Ok((n, Cursor { at: from + n, ..c }))
 }
 
 // Are the names whose lengths stand at two places the same?
@@ -79,25 +81,36 @@ fn name(s: &[u8], i: usize, from: usize, c: Cursor) -> Field
     if present(s, at, 1) {
         let n = s[at] as usize;
         if n < 1 {
-            return Field::Refused(3, at);
+            return Err(Refusal {
+                reason: Reason::BadName,
+                place: at,
+            });
         }
         if 12 < n {
-            return Field::Refused(3, at);
+            return Err(Refusal {
+                reason: Reason::BadName,
+                place: at,
+            });
         }
         if present(s, at + 1, n) {
-            let mut inside = c;
-            inside.at = at + 1;
+            let inside = Cursor { at: at + 1, ..c };
             let f = name_bytes(s, n, inside);
-            let Field::Got(_, next) = f else {
+            let Ok((_, next)) = f else {
                 return f;
             };
             if repeated(s, i, from, at) {
-                return Field::Refused(4, at);
+                return Err(Refusal {
+                    reason: Reason::RepeatedName,
+                    place: at,
+                });
             }
-            return Field::Got(i, next);
+            return Ok((i, next));
         }
     }
-    Field::Refused(1, s.len())
+    Err(Refusal {
+        reason: Reason::EndsTooSoon,
+        place: s.len(),
+    })
 }
 
 // All the names: as many as there are atoms.
@@ -109,10 +122,10 @@ pub fn names(s: &[u8], first: Cursor) -> Field
     let mut c = first;
     for i in 0..n {
         let f = name(s, i, from, c);
-        let Field::Got(_, next) = f else {
+        let Ok((_, next)) = f else {
             return f;
         };
         c = next;
     }
-    Field::Got(n, c)
+    Ok((n, c))
 }

@@ -8,6 +8,7 @@ ghost use Rattle.sheet.specs.Steps.{field_of, moved, opposites};
 
 use super::fields::present;
 use super::steps::{Cursor, Field};
+use answers::{Reason, Refusal};
 
 // Is the atom one of the n bytes from a place?
 fn taken(s: &[u8], from: usize, n: usize, atom: u8) -> bool
@@ -45,13 +46,17 @@ fn pair(s: &[u8], i: usize, from: usize, c: Cursor) -> Field
     let at = c.at;
     if present(s, at, 2) {
         if good_pair(s, i, from, c.atoms, s[at], s[at + 1]) {
-            let mut next = c;
-            next.at = at + 2;
-            return Field::Got(i, next);
+            return Ok((i, Cursor { at: at + 2, ..c }));
         }
-        return Field::Refused(15, at);
+        return Err(Refusal {
+            reason: Reason::BadPair,
+            place: at,
+        });
     }
-    Field::Refused(1, s.len())
+    Err(Refusal {
+        reason: Reason::EndsTooSoon,
+        place: s.len(),
+    })
 }
 
 // All the pairs.
@@ -63,10 +68,10 @@ pub fn pairs(s: &[u8], first: Cursor) -> Field
     let mut c = first;
     for i in 0..n {
         let f = pair(s, i, from, c);
-        let Field::Got(_, next) = f else {
+        let Ok((_, next)) = f else {
             return f;
         };
         c = next;
     }
-    Field::Got(n, c)
+    Ok((n, c))
 }

@@ -6,6 +6,7 @@ ghost use Rattle.sheet.specs.Steps.{field_of, moved, noted, noted_mask};
 
 use super::fields::{present, word};
 use super::steps::{Cursor, Field};
+use answers::{Reason, Refusal};
 use sets::power;
 
 // Mask i of a rule. Masks 4 and 5 have atoms under K and "not K", 6 and 7 under M and "not M".
@@ -16,21 +17,23 @@ fn mask(s: &[u8], i: usize, c: Cursor) -> Field
     let at = c.at;
     let w = word(s, at);
     if power(c.atoms as u16) <= w {
-        return Field::Refused(5, at);
+        return Err(Refusal {
+            reason: Reason::BadMask,
+            place: at,
+        });
     }
     let value = w as usize;
-    let mut next = c;
-    next.at = at + 2;
+    let next = Cursor { at: at + 2, ..c };
     match i {
         4..=5 => {
-            next.k_atoms = c.k_atoms | w;
-            Field::Got(value, next)
+            let k_atoms = c.k_atoms | w;
+            Ok((value, Cursor { k_atoms, ..next }))
         }
         6..=7 => {
-            next.m_atoms = c.m_atoms | w;
-            Field::Got(value, next)
+            let m_atoms = c.m_atoms | w;
+            Ok((value, Cursor { m_atoms, ..next }))
         }
-        _ => Field::Got(value, next),
+        _ => Ok((value, next)),
     }
 }
 
@@ -42,12 +45,12 @@ fn masks(s: &[u8], first: Cursor) -> Field
     let mut c = first;
     for i in 0..8 {
         let f = mask(s, i, c);
-        let Field::Got(_, next) = f else {
+        let Ok((_, next)) = f else {
             return f;
         };
         c = next;
     }
-    Field::Got(8, c)
+    Ok((8, c))
 }
 
 // A rule: all its bytes are there before a mask is judged.
@@ -58,7 +61,10 @@ fn rule(s: &[u8], c: Cursor) -> Field
     if present(s, c.at, 16) {
         return masks(s, c);
     }
-    Field::Refused(1, s.len())
+    Err(Refusal {
+        reason: Reason::EndsTooSoon,
+        place: s.len(),
+    })
 }
 
 // All the rules.
@@ -70,10 +76,10 @@ pub fn rules(s: &[u8], first: Cursor) -> Field
     let mut c = first;
     for i in 0..n {
         let f = rule(s, c);
-        let Field::Got(_, next) = f else {
+        let Ok((_, next)) = f else {
             return f;
         };
         c = next;
     }
-    Field::Got(n, c)
+    Ok((n, c))
 }

@@ -8,6 +8,7 @@ use super::names::names;
 use super::opposites::pairs;
 use super::rules::rules;
 use super::steps::{Cursor, Field};
+use answers::{Reason, Refusal};
 
 // Names and rules.
 fn front(s: &[u8]) -> Field
@@ -23,16 +24,16 @@ fn front(s: &[u8]) -> Field
         m_atoms: 0,
     };
     let a = count(s, 15, start);
-    let Field::Got(atoms, mut named) = a else {
+    let Ok((atoms, mut named)) = a else {
         return a;
     };
     named.atoms = atoms;
     let b = names(s, named);
-    let Field::Got(_, counted) = b else {
+    let Ok((_, counted)) = b else {
         return b;
     };
     let c = count(s, 64, counted);
-    let Field::Got(n, mut ruled) = c else {
+    let Ok((n, mut ruled)) = c else {
         return c;
     };
     ruled.rules = n;
@@ -45,21 +46,24 @@ pub fn sections(s: &[u8]) -> Field
     ensures { result ≡ field_of (λ x. length x.rules) cursor_of (sectionsOf s.now) }
 {
     let a = front(s);
-    let Field::Got(n, counted) = a else {
+    let Ok((n, counted)) = a else {
         return a;
     };
     let b = count(s, 7, counted);
-    let Field::Got(m, mut paired) = b else {
+    let Ok((m, mut paired)) = b else {
         return b;
     };
     paired.pairs = m;
     let c = pairs(s, paired);
-    let Field::Got(_, last) = c else {
+    let Ok((_, last)) = c else {
         return c;
     };
     let end = last.at;
     if end == s.len() {
-        return Field::Got(n, last);
+        return Ok((n, last));
     }
-    Field::Refused(6, end)
+    Err(Refusal {
+        reason: Reason::ExtraBytes,
+        place: end,
+    })
 }

@@ -1,5 +1,7 @@
 // What a reading step takes and answers.
 
+use answers::Refusal;
+
 // Where a reading stands, and what it has read so far.
 #[derive(Clone, Copy)]
 pub struct Cursor {
@@ -15,9 +17,6 @@ pub struct Cursor {
     pub m_atoms: u16,
 }
 
-// What a reading step answers: a field, as the number that it holds or counts, and the cursor after it; or a refusal, by number and place.
-#[derive(Clone, Copy)]
-pub enum Field {
-    Got(usize, Cursor),
-    Refused(u8, usize),
-}
+// What a reading step answers: a field, as the number that it holds or counts, and the cursor after it; or a refusal. Each caller takes it
+// apart by `let .. else` and hands a refusal on as it is.
+pub type Field = Result<(usize, Cursor), Refusal>;

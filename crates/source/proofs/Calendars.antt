@@ -26,47 +26,45 @@ use Rattle.semantics.proofs.Theorems.Day.{under_nothing}
 use Rattle.semantics.specs.Theorems.CalendarCalls.{Both, TurnedAway}
 use Rattle.semantics.proofs.Theorems.CalendarCalls.{minute_given, minute_refused}
 use Rattle.sheet.specs.declared.Contents.{Contents}
-use Rattle.sheet.specs.declared.Opened.TheVariants as answers
 use Rattle.sheet.specs.Opened.{contents, opened_of, opened_as, opened_refused, Holds}
 use Rattle.opened.specs.Loaded.{LoadsOnly}
-use Rattle.calendar.specs.declared.entries.Step.{Step}
-use Rattle.calendar.specs.declared.entries.Step.TheVariants as steps
 use Rattle.calendar.specs.Entries.{entries_in, Entries}
-use Rattle.calendar.specs.Steps.{ReadInto, was_field, was_refused}
+use Rattle.calendar.specs.Steps.{Step, ReadInto, was_field, calendar_refused}
 use Rattle.guess.specs.declared.outline.Outline.{Outline}
 use Rattle.guess.specs.Programs.{unmasked_in, setting_in, WithinLimits, Outlines}
-use Rattle.source.specs.declared.Source.TheVariants.{Accepted, Refused}
-use Rattle.source.specs.declared.minute.Scheduled.{Scheduled}
-use Rattle.source.specs.declared.minute.Scheduled.TheVariants as schedules
-use Rattle.source.specs.Sources.{Reads, ReadsBoth}
+use Rattle.std.specs.Prelude.{Ok, Err}
+use Rattle.answers.specs.Refusals.{number_of}
+use Rattle.answers.specs.declared.refusal.Refusal.{Refusal}
+use Rattle.sheet.specs.Refused.{refusal_of}
+use Rattle.source.specs.Sources.{Scheduled, Reads, ReadsBoth}
 use Rattle.source.proofs.Opened.{few_loaded}
 
 -- ---- a sheet, and then a calendar
 module _ (s c words : List ℕ) where
-  module _ {x : Contents} (opens : opened_of (opened s) ≡ answers.Accepted x) {r : Step} (reads : ReadInto (calendar_of c x.rules) r words) where
-    pub both_read : {n : ℕ} → r ≡ steps.Got n → ReadsBoth s c (schedules.Accepted x n) words
+  module _ {x : Contents} (opens : opened_of (opened s) ≡ Ok x) {r : Step} (reads : ReadInto (calendar_of c x.rules) r words) where
+    pub both_read : {n : ℕ} → r ≡ Ok n → ReadsBoth s c (Ok (x, n)) words
     both_read told =
         let (y, end, d, is) = opened_as (opened s) opens in
         let (es, close, f, many) = was_field (λ es _. length es) (calendar_of c x.rules) reads.0 told in
         let of : calendar_of c (length y.rules) ≡ calendar_of c x.rules = ap (λ z. calendar_of c z.rules) (sym is) in
         (y, es, record { end = end; opens = d; calendar_end = close; reads = of ∙ f }, is, many, ap (entries_in words) many ∙ reads.1 es close f)
 
-    pub calendar_turned_back : {number place : ℕ} → r ≡ steps.Refused number place → ReadsBoth s c (schedules.Refused number place) words
+    pub calendar_turned_back : {q : Refusal} → r ≡ Err q → ReadsBoth s c (Err q) words
     calendar_turned_back told =
         let (y, end, d, is) = opened_as (opened s) opens in
         let of : calendar_of c (length y.rules) ≡ calendar_of c x.rules = ap (λ z. calendar_of c z.rules) (sym is) in
-        inr (y, end, d, of ∙ was_refused (λ es _. length es) (calendar_of c x.rules) reads.0 told)
+        inr (y, end, d, of ∙ calendar_refused c x.rules reads.0 told)
 
-  pub sheet_turned_back : {number place : ℕ} → opened_of (opened s) ≡ answers.Refused number place → ReadsBoth s c (schedules.Refused number place) words
-  sheet_turned_back e = inl (opened_refused (opened s) e)
+  pub sheet_turned_back : {q : Refusal} → opened_of (opened s) ≡ Err q → ReadsBoth s c (Err q) words
+  sheet_turned_back e = inl (opened_refused s e)
 
 -- ---- what was read of both
 module _ (s c entries : List ℕ) (r : Scheduled) (h : ReadsBoth s c r entries) where
-  pub turned_back : {number place : ℕ} → r ≡ schedules.Refused number place → TurnedAway s c number place
+  pub turned_back : {q : Refusal} → r ≡ Err q → TurnedAway s c (number_of q.reason) q.place
   turned_back told = subst (λ z. ReadsBoth s c z entries) told h
 
-  module _ {x : Contents} {n : ℕ} (told : r ≡ schedules.Accepted x n) where
-    both : ReadsBoth s c (schedules.Accepted x n) entries
+  module _ {x : Contents} {n : ℕ} (told : r ≡ Ok (x, n)) where
+    both : ReadsBoth s c (Ok (x, n)) entries
     both = subst (λ z. ReadsBoth s c z entries) told h
 
     pub sheet-said : Sheet
@@ -106,7 +104,7 @@ module _ (s c entries : List ℕ) (r : Scheduled) (h : ReadsBoth s c r entries) 
 
     -- ---- at a minute
     module _ (minute : ℕ) where
-      pub minute_over : (words : List ℕ) → last_minute < minute → Reads (of_minute s c minute) (Refused 12 0) words
+      pub minute_over : (words : List ℕ) → last_minute < minute → Reads (of_minute s c minute) (Err (refusal_of 12 0)) words
       minute_over words l = (minute_refused s c minute 12 0).1 (inr (sheet-said, entries_read, accepts, l, refl, refl))
 
       -- the rules in force were loaded
@@ -159,7 +157,7 @@ module _ (s c entries : List ℕ) (r : Scheduled) (h : ReadsBoth s c r entries) 
 
         -- an outline of these rules, without masks
         pub minute_reads : minute ≤ last_minute → (o : Outline) → (o.atoms ≡ x.atoms) × (o.rules ≡ kept) × (o.ins ≡ ∅) × (o.outs ≡ ∅) → Outlines o words
-            → Reads (of_minute s c minute) (Accepted o) words
+            → Reads (of_minute s c minute) (Ok o) words
         unfolding left
         minute_reads l o (a, m, i, q) outlines =
             let rules : unmasked_in o words ≡ setting left = ap₂ (λ p q. setting_of p (map rule_of_masks (rules_in words q))) a m ∙ means in

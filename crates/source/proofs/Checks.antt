@@ -1,6 +1,6 @@
 -- One check more of what was read: a number that has to be below a bound. Assumes nothing.
 use Prim.Native.Nat.{ℕ, ◌^◌, ◌≤◌, ◌<◌}
-use mathlib.Core.Path.{◌≡◌, refl, sym, ap, subst}
+use mathlib.Core.Path.{◌≡◌, refl, ap, subst}
 use mathlib.Core.List.{List}
 use mathlib.Core.Logic.{inl, inr}
 use Rattle.semantics.specs.Definitions.Setting.{Setting, k}
@@ -9,9 +9,12 @@ use Rattle.semantics.specs.Definitions.Calls.{provided_below}
 use Rattle.semantics.proofs.Theorems.Source.{below_accepted, below_refused}
 use Rattle.guess.specs.declared.outline.Outline.{Outline}
 use Rattle.guess.specs.Programs.{setting_in, Outlines}
-use Rattle.source.specs.declared.Source.{Source}
-use Rattle.source.specs.declared.Source.TheVariants.{Accepted, Refused}
-use Rattle.source.specs.Sources.{Reads, ReadsOn}
+use Rattle.std.specs.Prelude.{Ok, Err}
+use Rattle.answers.specs.Refusals.{number_of}
+use Rattle.answers.specs.declared.reason.Reason.{Reason}
+use Rattle.answers.specs.declared.reason.Reason.TheVariants.{NoGuess, NoAtom}
+use Rattle.answers.specs.declared.refusal.Refusal.{Refusal}
+use Rattle.source.specs.Sources.{Source, ReadsOn}
 use Rattle.source.proofs.Read.{reads_accepted, reads_refused}
 
 -- its bound, which the code has from the outline, and its refusal
@@ -19,29 +22,28 @@ pub record Limit : Type 0 where
   pub bound : Setting → ℕ
   pub kept : Outline → ℕ
   pub same : (x : Outline) (words : List ℕ) → Outlines x words → kept x ≡ bound (setting_in x words)
-  pub number : ℕ
+  pub reason : Reason
 
 abbrev pub guesses : Limit
-guesses = record { bound = λ s. 2 ^ k s; kept = λ x. 2 ^ x.negations; same = λ x words o. ap (λ n. 2 ^ n) o.counted; number = 8 }
+guesses = record { bound = λ s. 2 ^ k s; kept = λ x. 2 ^ x.negations; same = λ x words o. ap (λ n. 2 ^ n) o.counted; reason = NoGuess }
 
 abbrev pub atoms : Limit
-atoms = record { bound = λ s. s.atoms; kept = λ x. x.atoms; same = λ x words o. refl; number = 10 }
+atoms = record { bound = λ s. s.atoms; kept = λ x. x.atoms; same = λ x words o. refl; reason = NoAtom }
 
 module _ (l : Limit) (n : ℕ) (r : Source) where
   abbrev check : Returned Setting → Returned Setting
-  check from = provided_below l.bound l.number from n
+  check from = provided_below l.bound (number_of l.reason) from n
 
-  pub still_refused : {m place : ℕ} → r ≡ Refused m place → ReadsOn check r r
-  still_refused {m} {place} e from words h =
-      subst (λ z. Reads (check from) z words) (sym e) ((below_refused l.bound l.number from n m place).1 (inl (reads_refused from words r h e)))
+  pub still_refused : {q : Refusal} → r ≡ Err q → ReadsOn check r (Err q)
+  still_refused {q} e from words h = (below_refused l.bound (number_of l.reason) from n (number_of q.reason) q.place).1 (inl (reads_refused from words r h e))
 
-  module _ {x : Outline} (e : r ≡ Accepted x) where
-    pub not_below : l.kept x ≤ n → ReadsOn check r (Refused l.number 0)
+  module _ {x : Outline} (e : r ≡ Ok x) where
+    pub not_below : l.kept x ≤ n → ReadsOn check r (Err (record { reason = l.reason; place = 0 }))
     not_below high from words h =
         let (o, d) = reads_accepted from words r h e in
-        (below_refused l.bound l.number from n l.number 0).1 (inr (setting_in x words, d, subst (λ b. b ≤ n) (l.same x words o) high, refl, refl))
+        (below_refused l.bound (number_of l.reason) from n (number_of l.reason) 0).1 (inr (setting_in x words, d, subst (λ b. b ≤ n) (l.same x words o) high, refl, refl))
 
-    pub below : n < l.kept x → ReadsOn check r (Accepted x)
+    pub below : n < l.kept x → ReadsOn check r (Ok x)
     below low from words h =
         let (o, d) = reads_accepted from words r h e in
-        (o, (below_accepted l.bound l.number from n (setting_in x words)).1 (record { of = d; below = subst (λ b. n < b) (l.same x words o) low }))
+        (o, (below_accepted l.bound (number_of l.reason) from n (setting_in x words)).1 (record { of = d; below = subst (λ b. n < b) (l.same x words o) low }))

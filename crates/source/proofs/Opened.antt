@@ -22,12 +22,14 @@ use Rattle.semantics.proofs.Theorems.Opposites.{opposed_below, pairs_as_rules}
 use Rattle.semantics.proofs.Theorems.Source.{sheet_accepted, sheet_refused}
 use Rattle.semantics.proofs.Theorems.DaySource.{dec_fit, not_fit, masks_accepted, masks_refused}
 use Rattle.sheet.specs.declared.Contents.{Contents}
-use Rattle.sheet.specs.declared.Opened.TheVariants as answers
 use Rattle.sheet.specs.Opened.{contents, opened_of, opened_as, opened_refused, Holds}
 use Rattle.opened.specs.Loaded.{Loads}
 use Rattle.guess.specs.declared.outline.Outline.{Outline}
 use Rattle.guess.specs.Programs.{unmasked_in, Outlines}
-use Rattle.source.specs.declared.Source.TheVariants.{Accepted, Refused}
+use Rattle.std.specs.Prelude.{Ok, Err}
+use Rattle.answers.specs.Refusals.{number_of}
+use Rattle.answers.specs.declared.refusal.Refusal.{Refusal}
+use Rattle.sheet.specs.Refused.{refusal_of}
 use Rattle.source.specs.Sources.{Reads}
 
 abbrev pub outline_of : Contents → (rules ins outs : ℕ) → Outline
@@ -42,7 +44,7 @@ outline_of x rules ins outs = record {
 }
 
 -- few atoms
-pub few_atoms : (s : List ℕ) {x : Contents} → opened_of (opened s) ≡ answers.Accepted x → x.atoms ≤ most_atoms
+pub few_atoms : (s : List ℕ) {x : Contents} → opened_of (opened s) ≡ Ok x → x.atoms ≤ most_atoms
 few_atoms s e =
     let (y, end, d, is) = opened_as (opened s) e in
     rw is (accepted_read s y end d).0.front_read.few_atoms
@@ -81,7 +83,7 @@ module _ (s words : List ℕ) (ins outs : ℕ) where
           few_negations = few;
         }
 
-    loaded : masks_fit ins outs (atoms y) ≡ true → Reads (of_day s ins outs) (Accepted (outline_of (contents y) rules ins outs)) words
+    loaded : masks_fit ins outs (atoms y) ≡ true → Reads (of_day s ins outs) (Ok (outline_of (contents y) rules ins outs)) words
     unfolding outline
     loaded fits = (
       is_outline,
@@ -89,20 +91,20 @@ module _ (s words : List ℕ) (ins outs : ℕ) where
     )
 
   pub day_reads : {x : Contents} → Holds s x → masks_fit ins outs x.atoms ≡ true → (rules : ℕ) → rules ≡ x.rules + x.pairs → Loads s rules words
-      → 8 * program_room ≤ length words → Reads (of_day s ins outs) (Accepted (outline_of x rules ins outs)) words
+      → 8 * program_room ≤ length words → Reads (of_day s ins outs) (Ok (outline_of x rules ins outs)) words
   day_reads {x} (y, end, d, is) fits rules many loads room =
       let all : rules ≡ length y.rules + length y.pairs = subst (λ c. rules ≡ c.rules + c.pairs) is many in
-      subst (λ c. Reads (of_day s ins outs) (Accepted (outline_of c rules ins outs)) words) (sym is)
+      subst (λ c. Reads (of_day s ins outs) (Ok (outline_of c rules ins outs)) words) (sym is)
       (loaded y end d rules all (loads y end d) room (subst (λ c. masks_fit ins outs c.atoms ≡ true) is fits))
 
   -- "13, place 0"
-  pub day_reads_bad : {x : Contents} → opened_of (opened s) ≡ answers.Accepted x → masks_fit ins outs x.atoms ≡ false → Reads (of_day s ins outs) (Refused 13 0) words
+  pub day_reads_bad : {x : Contents} → opened_of (opened s) ≡ Ok x → masks_fit ins outs x.atoms ≡ false → Reads (of_day s ins outs) (Err (refusal_of 13 0)) words
   day_reads_bad e not_so =
       let (y, end, d, is) = opened_as (opened s) e in
       let bad = subst (λ c. masks_fit ins outs c.atoms ≡ false) is not_so in
       (masks_refused (of_sheet s) ins outs 13 0).1
       (inr (setting y, (sheet_accepted s _).1 (y, end, d, refl), not_fit ins outs (atoms y) ((dec_fit ins outs (atoms y)).no bad), refl, refl))
 
-  pub day_reads_refused : {number place : ℕ} → opened_of (opened s) ≡ answers.Refused number place → Reads (of_day s ins outs) (Refused number place) words
-  day_reads_refused {number} {place} e =
-      (masks_refused (of_sheet s) ins outs number place).1 (inl ((sheet_refused s number place).1 (opened_refused (opened s) e)))
+  pub day_reads_refused : {q : Refusal} → opened_of (opened s) ≡ Err q → Reads (of_day s ins outs) (Err q) words
+  day_reads_refused {q} e =
+      (masks_refused (of_sheet s) ins outs (number_of q.reason) q.place).1 (inl ((sheet_refused s (number_of q.reason) q.place).1 (opened_refused s e)))

@@ -11,16 +11,13 @@ ghost use Rattle.semantics.specs.Definitions.Day.{masks_fit, of_day};
 ghost use Rattle.semantics.specs.Definitions.Calls.{for_guess, for_atom};
 ghost use Rattle.source.specs.Sources.{Reads, Within, ReadsOn};
 
+use answers::{Reason, Refusal};
 use guess::outline::Outline;
 use opened::load;
 use sets::{meets, power};
-use sheet::{Opened, open};
+use sheet::open;
 
-#[derive(Clone, Copy)]
-pub enum Source {
-    Accepted(Outline),
-    Refused(u8, usize),
-}
+pub type Source = Result<Outline, Refusal>;
 
 // Is every in-atom and every out-atom one of so many atoms, and no atom both?
 fn masks_fit(ins: u16, outs: u16, atoms: usize) -> bool
@@ -40,24 +37,23 @@ pub fn of_day(sheet: &[u8], ins: u16, outs: u16, words: &mut [u16]) -> Source
     ensures words_len_unchanged { length words.new ≡ length words.old }
     ensures reads { Reads (of_day sheet.now ins outs) result words.new }
 {
-    match open(sheet) {
-        Opened::Accepted(x) => {
-            if !masks_fit(ins, outs, x.atoms) {
-                return Source::Refused(13, 0);
-            }
-            let rules = load(sheet, x, &mut words[..]);
-            Source::Accepted(Outline {
-                atoms: x.atoms,
-                rules,
-                negations: x.negations,
-                k_atoms: x.k_atoms,
-                m_atoms: x.m_atoms,
-                ins,
-                outs,
-            })
-        }
-        Opened::Refused(number, place) => Source::Refused(number, place),
+    let x = open(sheet)?;
+    if !masks_fit(ins, outs, x.atoms) {
+        return Err(Refusal {
+            reason: Reason::BadDay,
+            place: 0,
+        });
     }
+    let rules = load(sheet, x, &mut words[..]);
+    Ok(Outline {
+        atoms: x.atoms,
+        rules,
+        negations: x.negations,
+        k_atoms: x.k_atoms,
+        m_atoms: x.m_atoms,
+        ins,
+        outs,
+    })
 }
 
 // One check more, of a guess: refusal 8. A refusal stays as it is.
@@ -65,24 +61,26 @@ pub fn for_guess(source: Source, guess: u32) -> Source
     requires { Within source }
     ensures { ReadsOn (λ from. for_guess from guess) source result }
 {
-    let Source::Accepted(x) = source else {
-        return source;
-    };
+    let x = source?;
     if power(x.negations as u16) as u32 <= guess {
-        return Source::Refused(8, 0);
+        return Err(Refusal {
+            reason: Reason::NoGuess,
+            place: 0,
+        });
     }
-    source
+    Ok(x)
 }
 
 // One check more, of an atom: refusal 10. A refusal stays as it is.
 pub fn for_atom(source: Source, atom: u32) -> Source
     ensures { ReadsOn (λ from. for_atom from atom) source result }
 {
-    let Source::Accepted(x) = source else {
-        return source;
-    };
+    let x = source?;
     if x.atoms <= atom as usize {
-        return Source::Refused(10, 0);
+        return Err(Refusal {
+            reason: Reason::NoAtom,
+            place: 0,
+        });
     }
-    source
+    Ok(x)
 }

@@ -5,17 +5,14 @@ ghost use Rattle.semantics.specs.Definitions.Calendar.{most_entries, of_minute};
 ghost use Rattle.source.specs.Sources.{Reads, ReadsBoth};
 
 use super::Source;
-use calendar::{Step, in_force, read};
+use answers::{Reason, Refusal};
+use calendar::{in_force, read};
 use guess::outline::outline_of;
 use opened::load_only;
-use sheet::{Contents, Opened, open};
+use sheet::{Contents, open};
 
 // What a sheet says, and how many entries of its calendar stand in words; or the refusal of one of them.
-#[derive(Clone, Copy)]
-pub enum Scheduled {
-    Accepted(Contents, usize),
-    Refused(u8, usize),
-}
+pub type Scheduled = Result<(Contents, usize), Refusal>;
 
 // Reads the whole sheet, refusals 1 to 7 and 15, and then the calendar: 1, 2, 11 and 6.
 pub fn with_calendar(sheet: &[u8], calendar: &[u8], entries: &mut [u16]) -> Scheduled
@@ -23,13 +20,9 @@ pub fn with_calendar(sheet: &[u8], calendar: &[u8], entries: &mut [u16]) -> Sche
     ensures entries_len_unchanged { length entries.new ≡ length entries.old }
     ensures reads_both { ReadsBoth sheet.now calendar.now result entries.new }
 {
-    match open(sheet) {
-        Opened::Accepted(x) => match read(calendar, x.rules, &mut entries[..]) {
-            Step::Got(n) => Scheduled::Accepted(x, n),
-            Step::Refused(number, place) => Scheduled::Refused(number, place),
-        },
-        Opened::Refused(number, place) => Scheduled::Refused(number, place),
-    }
+    let x = open(sheet)?;
+    let n = read(calendar, x.rules, &mut entries[..])?;
+    Ok((x, n))
 }
 
 // Reads both, then refusal 12, then the rules in force and all pairs.
@@ -39,15 +32,14 @@ pub fn at_minute(sheet: &[u8], calendar: &[u8], minute: u32, words: &mut [u16]) 
     ensures reads { Reads (of_minute sheet.now calendar.now minute) result words.new }
 {
     let mut entries = [0u16; 192];
-    match with_calendar(sheet, calendar, &mut entries[..]) {
-        Scheduled::Accepted(x, n) => {
-            if 10079 < minute {
-                return Source::Refused(12, 0);
-            }
-            let set = in_force(&entries[..], n, x.rules, minute as u16);
-            let rules = load_only(sheet, x, set, &mut words[..]);
-            Source::Accepted(outline_of(&words[..], x.atoms, rules))
-        }
-        Scheduled::Refused(number, place) => Source::Refused(number, place),
+    let (x, n) = with_calendar(sheet, calendar, &mut entries[..])?;
+    if 10079 < minute {
+        return Err(Refusal {
+            reason: Reason::NoMinute,
+            place: 0,
+        });
     }
+    let set = in_force(&entries[..], n, x.rules, minute as u16);
+    let rules = load_only(sheet, x, set, &mut words[..]);
+    Ok(outline_of(&words[..], x.atoms, rules))
 }

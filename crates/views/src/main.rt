@@ -9,7 +9,7 @@ ghost use Rattle.semantics.specs.Definitions.Returned.{accepted};
 ghost use Rattle.semantics.specs.Theorems.Calls.{GuessOf};
 ghost use Rattle.semantics.specs.Theorems.Records.{RecordsOf};
 
-use engine::{Checked, Counted, Listed, belief_sets, check, list};
+use engine::{belief_sets, check, list};
 use std::io;
 use std::io::{Read, Stdin, Stdout, Write};
 
@@ -67,8 +67,8 @@ fn sets_of(sheet: &[u8], guess: u16, out: Stdout) -> io::Result<()>
 {
     let mut sets = [0u16; 32768];
     match belief_sets(sheet, 0, 0, guess as u32, &mut sets) {
-        Counted::Accepted { count } => each_set(sheet, &sets, count, out),
-        Counted::Refused { .. } => unreachable!(),
+        Ok(count) => each_set(sheet, &sets, count, out),
+        Err(_) => unreachable!(),
     }
 }
 
@@ -99,32 +99,21 @@ fn listing(sheet: &[u8], out: Stdout) -> io::Result<()>
 {
     let mut records = [0u16; 16384];
     match list(sheet, 0, 0, &mut records) {
-        Listed::Accepted {
-            views,
-            covered,
-            ruled,
-            tested,
-            empty,
-            other,
-        } => {
-            each_view(sheet, &records, views, out)?;
-            print_tally(views, covered, ruled, tested, empty, other, out)
+        Ok(t) => {
+            each_view(sheet, &records, t.views, out)?;
+            print_tally(t.views, t.covered, t.ruled, t.tested, t.empty, t.other, out)
         }
-        Listed::Refused { .. } => unreachable!(),
+        Err(_) => unreachable!(),
     }
 }
 
 fn answer(sheet: &[u8], out: Stdout) -> io::Result<()> {
     match check(sheet) {
-        Checked::Accepted {
-            atoms,
-            rules,
-            negations,
-        } => {
-            print_sheet(atoms, rules, negations, out)?;
+        Ok(x) => {
+            print_sheet(x.atoms, x.rules, x.negations, out)?;
             listing(sheet, out)
         }
-        Checked::Refused { number, place } => print_refused(number, place, out),
+        Err(refusal) => print_refused(refusal.reason.number(), refusal.place, out),
     }
 }
 

@@ -3,49 +3,49 @@ use mathlib.Core.Path.{refl}
 use native.Mathlib.Omega.{arith}
 use Rattle.semantics.proofs.Theorems.DaySource.{day_bounded}
 use Rattle.desk.proofs.Laws.{small, small_refusal, met, too_short, refused_too, fits, records_fit}
-use Rattle.desk.proofs.budkarv_list.Goals.{In-Accepted, In-Refused}
+use Rattle.desk.proofs.budkarv_list.Goals.{In-Ok, In-Err}
 use Rattle.desk.proofs.budkarv_list.Goals as goal
 
-pub overflow_mul-views : goal.overflow_mul-views
-overflow_mul-views c = omega (arith, small _ (day_bounded _ _ _) _ c.list.ensures.result_value c.in-Accepted.is)
+pub overflow_mul-tally : goal.overflow_mul-tally
+overflow_mul-tally c = omega (arith, small _ (day_bounded _ _ _) _ c.list.ensures.result_value c.in-Ok.is)
 
-pub overflow_add-views : goal.overflow_add-views
-overflow_add-views c = omega (arith, small _ (day_bounded _ _ _) _ c.list.ensures.result_value c.in-Accepted.is)
+pub overflow_add-tally : goal.overflow_add-tally
+overflow_add-tally c = omega (arith, small _ (day_bounded _ _ _) _ c.list.ensures.result_value c.in-Ok.is)
 
 pub overflow_cast-result : goal.overflow_cast-result
-overflow_cast-result c = omega (arith, small _ (day_bounded _ _ _) _ c.list.ensures.result_value c.in-Accepted.is)
+overflow_cast-result c = omega (arith, small _ (day_bounded _ _ _) _ c.list.ensures.result_value c.in-Ok.is)
 
 pub overflow_add-result : goal.overflow_add-result
-overflow_add-result c = omega (arith, small _ (day_bounded _ _ _) _ c.list.ensures.result_value c.in-Accepted.is)
+overflow_add-result c = omega (arith, small _ (day_bounded _ _ _) _ c.list.ensures.result_value c.in-Ok.is)
 
-pub returns-then-bytes-views : goal.returns-then-bytes-views
-returns-then-bytes-views c =
+pub returns-then-bytes-tally : goal.returns-then-bytes-tally
+returns-then-bytes-tally c =
     let a = c.args in
     let l = c.list in
-    let met = met a.sheet.now a.ins a.outs a.bytes.now (too_short _ (day_bounded _ _ _) _ l.ensures.result_value c.in-Accepted.is a.bytes.now (omega (arith, c.if-bytes-views.true))) in
+    let met = met a.sheet.now a.ins a.outs a.bytes.now (too_short _ (day_bounded _ _ _) _ l.ensures.result_value c.in-Ok.is a.bytes.now (omega (arith, c.if-bytes-tally.true))) in
     record { value = met.0; bytes_after = met.1.0; desk_demand = met.1.1.0; desk_day = met.1.1.1 }
 
 pub write_listing-requires : goal.write_listing-requires
 write_listing-requires c =
     let l = c.list in
-    let told = c.in-Accepted.is in
-    (small _ (day_bounded _ _ _) _ l.ensures.result_value told, records_fit _ (day_bounded _ _ _) _ l.ensures.result_value told _ refl l.ensures.out_after, omega (arith, c.if-bytes-views.false))
+    let told = c.in-Ok.is in
+    (small _ (day_bounded _ _ _) _ l.ensures.result_value told, records_fit _ (day_bounded _ _ _) _ l.ensures.result_value told _ refl l.ensures.out_after, omega (arith, c.if-bytes-tally.false))
 
-pub overflow_cast-result-in-Refused-2 : goal.overflow_cast-result-in-Refused-2
-overflow_cast-result-in-Refused-2 c = omega (arith, small_refusal _ (day_bounded _ _ _) _ c.list.ensures.result_value c.in-Refused.is (omega arith))
+pub overflow_cast-result-in-Err-2 : goal.overflow_cast-result-in-Err-2
+overflow_cast-result-in-Err-2 c = omega (arith, small_refusal _ (day_bounded _ _ _) _ c.list.ensures.result_value c.in-Err.is (omega arith), c.number.ensures)
 
-pub overflow_add-result-in-Refused : goal.overflow_add-result-in-Refused
-overflow_add-result-in-Refused c = omega (arith, small_refusal _ (day_bounded _ _ _) _ c.list.ensures.result_value c.in-Refused.is (omega arith))
+pub overflow_add-result-in-Err : goal.overflow_add-result-in-Err
+overflow_add-result-in-Err c = omega (arith, small_refusal _ (day_bounded _ _ _) _ c.list.ensures.result_value c.in-Err.is (omega arith), c.number.ensures)
 
-pub returns-else-bytes-views : goal.returns-else-bytes-views
-returns-else-bytes-views c =
+pub returns-else-bytes-tally : goal.returns-else-bytes-tally
+returns-else-bytes-tally c =
     let a = c.args in
     let l = c.list in
-    let met = met a.sheet.now a.ins a.outs a.bytes.now (fits _ (day_bounded _ _ _) _ l.ensures.result_value c.in-Accepted.is _ a.bytes.now l.ensures.out_after (omega (arith, c.if-bytes-views.false)) c.write_listing.ensures) in
+    let met = met a.sheet.now a.ins a.outs a.bytes.now (fits _ (day_bounded _ _ _) _ l.ensures.result_value c.in-Ok.is _ a.bytes.now l.ensures.out_after (omega (arith, c.if-bytes-tally.false)) c.write_listing.ensures) in
     record { value = met.0; bytes_after = met.1.0; desk_demand = met.1.1.0; desk_day = met.1.1.1 }
 
-pub returns-in-Refused : goal.returns-in-Refused
-returns-in-Refused c =
+pub returns-in-Err : goal.returns-in-Err
+returns-in-Err c =
     let a = c.args in
-    let met = met a.sheet.now a.ins a.outs a.bytes.now (refused_too _ (day_bounded _ _ _) _ c.list.ensures.result_value c.in-Refused.is (omega arith) a.bytes.now) in
-    record { value = met.0; bytes_after = met.1.0; desk_demand = met.1.1.0; desk_day = met.1.1.1 }
+    let met = met a.sheet.now a.ins a.outs a.bytes.now (refused_too _ (day_bounded _ _ _) _ c.list.ensures.result_value c.in-Err.is (omega arith) a.bytes.now) in
+    rw c.number.ensures (record { value = met.0; bytes_after = met.1.0; desk_demand = met.1.1.0; desk_day = met.1.1.1 })

@@ -15,13 +15,14 @@ use Rattle.semantics.specs.Fields.{k_atoms, m_atoms}
 use Rattle.semantics.proofs.Theorems.Accepted.{sections-read, masks_below}
 use Rattle.semantics.specs.Theorems.Subjects.{k_atoms_below, m_atoms_below, k-size}
 use Rattle.sheet.specs.declared.steps.Cursor.{Cursor}
-use Rattle.sheet.specs.declared.steps.Field.{Field}
-use Rattle.sheet.specs.declared.steps.Field.TheVariants.{Got, Refused}
 use Rattle.sheet.specs.declared.Contents.{Contents}
-use Rattle.sheet.specs.declared.Opened.TheVariants.{Accepted, Refused as Denied}
-use Rattle.sheet.specs.Steps.{field_of, cursor_of}
+use Rattle.answers.specs.declared.refusal.Refusal.{Refusal}
+use Rattle.std.specs.Prelude.{Ok, Err}
+use Rattle.sheet.specs.Steps.{Field, Got, field_of, cursor_of}
+use Rattle.sheet.specs.Refused.{refusal_of}
 use Rattle.sheet.specs.Opened.{opened_of}
-use Rattle.sheet.proofs.Laws.{was_field, was_refused}
+use Rattle.sheet.proofs.Laws.{was_field, refused_so}
+use Rattle.std.proofs.lemmas.Result.{err_from_is_err_and}
 use Rattle.sheet.proofs.open.Goals as goal
 
 abbrev kept : Cursor → ℕ → Contents
@@ -36,11 +37,9 @@ kept c n = record {
 }
 
 module _ (s : List ℕ) {f : Field} (answered : f ≡ field_of (λ x. length x.rules) cursor_of (sections s)) where
-  refused_early : {number place : ℕ} → f ≡ Refused number place → Denied number place ≡ opened_of (opened s)
+  refused_early : {q : Refusal} → f ≡ Err q → Err q ≡ opened_of (opened s)
   unfolding opened
-  refused_early told =
-      let e = was_refused (λ x. length x.rules) cursor_of (sections s) answered told in
-      rw e
+  refused_early = refused_so (λ x. length x.rules) cursor_of (sections s) answered (λ q. Err q ≡ opened_of (opened s)) (λ _ _ e. rw e)
 
   module _ {v : ℕ} {c : Cursor} (told : f ≡ Got v c) where
     read : (x : Sheet) × (end : ℕ) × (sections s ≡ field x end) × (v ≡ length x.rules) × (c ≡ cursor_of x end)
@@ -64,29 +63,31 @@ module _ (s : List ℕ) {f : Field} (answered : f ≡ field_of (λ x. length x.r
           let q = k-size (atoms x) x.rules (masks_below s x end e) in
           (x, end, e, p, omega (arith, ei ∙ ap (λ z. size z.k_atoms) p, ej ∙ ap (λ z. size z.m_atoms) p))
 
-      too_many : 12 < i + j → Denied 7 0 ≡ opened_of (opened s)
+      too_many : 12 < i + j → Err (refusal_of 7 0) ≡ opened_of (opened s)
       unfolding opened
       too_many h =
           let (x, end, e, _, q) = counted in
           rw (e, lt-leb (k (setting x)) 12 (omega arith))
 
-      few : i + j ≤ 12 → Accepted (kept c (i + j)) ≡ opened_of (opened s)
+      few : i + j ≤ 12 → Ok (kept c (i + j)) ≡ opened_of (opened s)
       unfolding opened
       few h =
           let (x, end, e, p, q) = counted in
-          ap₂ (λ z n. Accepted (kept z n)) p q
+          ap₂ (λ z n. Ok (kept z n)) p q
           ∙ rw (e, le-leb (k (setting x)) 12 (omega arith))
 
 pub overflow_add-k : goal.overflow_add-k
 overflow_add-k c =
-    let h = small c.args.s.now c.sections.ensures c.in-Got.is c.size.ensures c.size-in-Got.ensures in
+    let h = small c.args.s.now c.sections.ensures c.in_ok-c.was c.size.ensures c.size-2.ensures in
     omega (arith, h.0, h.1)
 
 pub returns-then-k-gt12 : goal.returns-then-k-gt12
-returns-then-k-gt12 c = too_many c.args.s.now c.sections.ensures c.in-Got.is c.size.ensures c.size-in-Got.ensures c.if-k-gt12.true
+returns-then-k-gt12 c = too_many c.args.s.now c.sections.ensures c.in_ok-c.was c.size.ensures c.size-2.ensures c.if-k-gt12.true
 
-pub returns-else-k-gt12 : goal.returns-else-k-gt12
-returns-else-k-gt12 c = few c.args.s.now c.sections.ensures c.in-Got.is c.size.ensures c.size-in-Got.ensures c.if-k-gt12.false
+pub returns : goal.returns
+returns c = few c.args.s.now c.sections.ensures c.in_ok-c.was c.size.ensures c.size-2.ensures c.if-k-gt12.false
 
-pub returns-in-Refused : goal.returns-in-Refused
-returns-in-Refused c = refused_early c.args.s.now c.sections.ensures c.in-Refused.is
+pub returns-in_err-c : goal.returns-in_err-c
+returns-in_err-c c =
+    let p = err_from_is_err_and c.from_residual.result c.from_residual.ensures.1 in
+    rw (p.1, p.2) (refused_early c.args.s.now c.sections.ensures c.in_err-c.was)

@@ -6,4 +6,4 @@ use Rattle.views.proofs.answer.Goals as goal
 pub listing-requires : goal.listing-requires
 listing-requires c =
     let a = c.args in
-    checked-sheet a.sheet.now (sym c.in-Accepted.ensures.result_value)
+    checked-sheet a.sheet.now (sym c.in-Ok.ensures.result_value)

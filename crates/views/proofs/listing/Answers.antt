@@ -8,7 +8,7 @@ use Rattle.views.proofs.listing.Goals as goal
 pub each_view-requires : goal.each_view-requires
 each_view-requires c =
     let a = c.args in
-    let r = c.in-Accepted.ensures.listing_demand.listing-written _ refl in
+    let r = c.in-Ok.ensures.listing_demand.listing-written _ refl in
     record {
       n_in_bounds = omega (arith, r.fits);
       sheet_value = (r.of, without_masks a.sheet.now r.accepts, r.records);
@@ -18,4 +18,4 @@ pub unreachable-requires : goal.unreachable-requires
 unreachable-requires c =
     let a = c.args in
     let (s, h) = c.requires in
-    listing_fits a.sheet.now h _ (c.in-Refused.ensures.listing_day.both_zero refl refl).0 (omega arith) refl
+    listing_fits a.sheet.now h _ (c.in-Err.ensures.listing_day.both_zero refl refl).0 (omega arith) refl

@@ -6,10 +6,10 @@ use Rattle.views.proofs.sets_of.Goals as goal
 
 pub each_set-requires : goal.each_set-requires
 each_set-requires c =
-    omega (arith, (c.in-Accepted.ensures.sets_demand.sets-written _ refl).fits)
+    omega (arith, (c.in-Ok.ensures.sets_demand.sets-written _ refl).fits)
 
 pub unreachable-requires : goal.unreachable-requires
 unreachable-requires c =
     let a = c.args in
     let (s, h) = c.requires in
-    sets-fit a.sheet.now a.guess h _ _ c.in-Refused.ensures.sets_demand (omega arith) refl
+    sets-fit a.sheet.now a.guess h _ _ c.in-Err.ensures.sets_demand (omega arith) refl

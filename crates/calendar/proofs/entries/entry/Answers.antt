@@ -4,7 +4,7 @@ use mathlib.Core.Path.{refl, sym, ◌∙◌}
 use native.Mathlib.Omega.{arith}
 use lib.ListN.{length}
 use borrow.Author.Tests.{leb-true}
-use Rattle.calendar.proofs.Written.{entered_so, refused_so, short_so}
+use Rattle.calendar.proofs.Written.{entered_so, eleven_so, short_so}
 use Rattle.calendar.proofs.entries.entry.Goals as goal
 
 pub bounds-c-at : goal.bounds-c-at
@@ -41,7 +41,7 @@ returns-then-present c =
     record {
       out_len_unchanged = refl;
       out_unchanged = refl;
-      entered = refused_so a.c.now a.rules a.at a.out.now a.i (sym c.present.ensures ∙ c.if-present.true) c.word-first.ensures c.word-end.ensures (sym c.proper.ensures ∙ c.if-proper.false);
+      entered = eleven_so a.c.now a.rules a.at a.out.now a.i (sym c.present.ensures ∙ c.if-present.true) c.word-first.ensures c.word-end.ensures (sym c.proper.ensures ∙ c.if-proper.false);
     }
 
 pub returns : goal.returns

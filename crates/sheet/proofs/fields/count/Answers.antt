@@ -16,8 +16,8 @@ pub returns-then-limit-n : goal.returns-then-limit-n
 unfolding count_at
 returns-then-limit-n c = simp (sym c.present.ensures ∙ c.if-present.true, lt-leb _ _ c.if-limit-n.true)
 
-pub overflow_add-next : goal.overflow_add-next
-overflow_add-next c =
+pub overflow_add-result : goal.overflow_add-result
+overflow_add-result c =
     let a = c.args in
     omega (arith, there a.c.at 1 (length a.s.now) c.present.ensures c.if-present.true)
 

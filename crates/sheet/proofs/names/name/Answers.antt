@@ -13,9 +13,9 @@ use Rattle.semantics.specs.Definitions.Sheet.{byte_at, name_byte_at, name_at}
 use Rattle.semantics.specs.Fields.{name_from, names_from}
 use Rattle.semantics.proofs.Theorems.Fields.{name_bytes_field}
 use Rattle.sheet.specs.declared.steps.Cursor.{Cursor}
-use Rattle.sheet.specs.declared.steps.Field.{Field}
-use Rattle.sheet.specs.declared.steps.Field.TheVariants.{Got, Refused}
-use Rattle.sheet.specs.Steps.{field_of, moved}
+use Rattle.answers.specs.declared.refusal.Refusal.{Refusal}
+use Rattle.std.specs.Prelude.{Err}
+use Rattle.sheet.specs.Steps.{Field, Got, Refused, field_of, moved}
 use Rattle.sheet.proofs.Laws.{there, was_field, was_refused}
 use Rattle.sheet.proofs.names.name.Goals as goal
 
@@ -55,11 +55,10 @@ module _ (s : List ℕ) (i from : ℕ) (c : Cursor) where
         cut_off e = rw (sym length-there ∙ yes-length, le-leb _ _ low, le-leb _ _ high, sym bytes-there ∙ e)
 
         module _ (yes-bytes : b ≡ true) {f : Field} (judged : f ≡ field_of (λ _. size) (λ _. moved c) bytes) where
-          bad_byte : {k p : ℕ} → f ≡ Refused k p → f ≡ answer
+          bad_byte : {q : Refusal} → f ≡ Err q → f ≡ answer
           unfolding name_at
           bad_byte told =
-              let e = was_refused (λ _. size) (λ _. moved c) bytes judged told in
-              told ∙ rw (sym length-there ∙ yes-length, le-leb _ _ low, le-leb _ _ high, sym bytes-there ∙ yes-bytes, e)
+              was_refused (λ _. size) (λ _. moved c) bytes judged (λ _ _ e. rw (sym length-there ∙ yes-length, le-leb _ _ low, le-leb _ _ high, sym bytes-there ∙ yes-bytes, e)) told
 
           module _ {v : ℕ} {next : Cursor} (told : f ≡ Got v next) {d : Bool} (compared : d ≡ some (same_list (name_from s at)) earlier) where
             read : (end : ℕ) × (bytes ≡ field (name_from s at) end) × (next ≡ moved c end)
@@ -126,14 +125,14 @@ pub returns-then-repeated : goal.returns-then-repeated
 returns-then-repeated c =
     let a = c.args in
     known a.s.now a.i a.from a.c c.present.ensures c.if-present.true c.if-n-lt1.false c.if-n-gt12.false
-    c.present-then-present.ensures c.if-present-2.true c.name_bytes-f.ensures c.in-Got.is
+    c.present-then-present.ensures c.if-present-2.true c.name_bytes-f.ensures c.in-Ok.is
     c.repeated.ensures c.if-repeated.true
 
 pub returns-then-present-2 : goal.returns-then-present-2
 returns-then-present-2 c =
     let a = c.args in
     new a.s.now a.i a.from a.c c.present.ensures c.if-present.true c.if-n-lt1.false c.if-n-gt12.false
-    c.present-then-present.ensures c.if-present-2.true c.name_bytes-f.ensures c.in-Got.is
+    c.present-then-present.ensures c.if-present-2.true c.name_bytes-f.ensures c.in-Ok.is
     c.repeated.ensures c.if-repeated.false
 
 pub returns-else-present-2 : goal.returns-else-present-2

@@ -13,8 +13,7 @@ use Rattle.semantics.specs.Definitions.Reading.{Reading, refused, times}
 use Rattle.semantics.specs.Definitions.Sheet.{byte_at, name_byte, name_byte_at}
 use Rattle.semantics.specs.Fields.{bytes_from}
 use Rattle.semantics.proofs.Theorems.Fields.{bytes_from-more}
-use Rattle.sheet.specs.declared.steps.Field.TheVariants.{Got}
-use Rattle.sheet.specs.Steps.{field_of, moved}
+use Rattle.sheet.specs.Steps.{Got, field_of, moved}
 use Rattle.semantics.specs.Theorems.Turns.{starts, goes_on, stops, is_done}
 use Rattle.sheet.proofs.names.name_bytes.Goals as goal
 

@@ -20,7 +20,7 @@ pub loop-i-preserved : goal.loop-i-preserved
 loop-i-preserved c =
     let a = c.args in
     let l = c.loop-i in
-    turned (loop a.s.now a.first) l.invariant c.loop-i-test.true refl c.name-f.ensures c.in-Got.is
+    turned (loop a.s.now a.first) l.invariant c.loop-i-test.true refl c.name-f.ensures c.in-Ok.is
 
 pub returns : goal.returns
 returns c = let a = c.args in finished (loop a.s.now a.first) c.loop-i.invariant c.loop-i-test.false

@@ -7,9 +7,7 @@ use Prim.Native.Nat.{ℕ, ◌+◌, ◌^◌, ◌≤◌, ◌<◌}
 use Rattle.sets.specs.Sets.{◌∪◌}
 use Rattle.semantics.specs.Definitions.Sheet.{word_at, mask_at}
 use Rattle.sheet.specs.declared.steps.Cursor.{Cursor}
-use Rattle.sheet.specs.declared.steps.Field.{Field}
-use Rattle.sheet.specs.declared.steps.Field.TheVariants.{Got, Refused}
-use Rattle.sheet.specs.Steps.{field_of, moved, with_sets, noted_mask}
+use Rattle.sheet.specs.Steps.{Field, Got, Refused, field_of, moved, with_sets, noted_mask}
 use Rattle.sheet.proofs.rules.mask.Goals as goal
 
 module _ (s : List ℕ) (i : ℕ) (c : Cursor) (w : ℕ) (read : w ≡ word_at s c.at) where

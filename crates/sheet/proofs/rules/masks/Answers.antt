@@ -25,7 +25,7 @@ loop-i-preserved c =
     let a = c.args in
     let l = c.loop-i in
     turned (loop a.s.now a.first) l.invariant c.loop-i-test.true (same a.s.now a.first l.invariant)
-    c.mask-f.ensures c.in-Got.is
+    c.mask-f.ensures c.in-Ok.is
 
 pub returns : goal.returns
 returns c = let a = c.args in finished (loop a.s.now a.first) c.loop-i.invariant c.loop-i-test.false

@@ -22,7 +22,7 @@ loop-i-preserved c =
     let a = c.args in
     let l = c.loop-i in
     turned (loop a.s.now a.first) l.invariant c.loop-i-test.true (same a.s.now a.first l.invariant)
-    c.rule-f.ensures c.in-Got.is
+    c.rule-f.ensures c.in-Ok.is
 
 pub returns : goal.returns
 returns c = let a = c.args in finished (loop a.s.now a.first) c.loop-i.invariant c.loop-i-test.false

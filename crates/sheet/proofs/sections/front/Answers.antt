@@ -10,9 +10,9 @@ use Rattle.semantics.specs.Definitions.Sheet.{count_at, name_at, rule_at, front}
 use Rattle.semantics.specs.Theorems.Reading.{times-length}
 use Rattle.semantics.proofs.Theorems.Fields.{count_field}
 use Rattle.sheet.specs.declared.steps.Cursor.{Cursor}
-use Rattle.sheet.specs.declared.steps.Field.{Field}
-use Rattle.sheet.specs.declared.steps.Field.TheVariants.{Got, Refused}
-use Rattle.sheet.specs.Steps.{field_of, moved, noted, cursor_of}
+use Rattle.answers.specs.declared.refusal.Refusal.{Refusal}
+use Rattle.std.specs.Prelude.{Ok, Err}
+use Rattle.sheet.specs.Steps.{Field, Got, field_of, moved, noted, cursor_of}
 use Rattle.sheet.proofs.Laws.{was_field, was_refused}
 use Rattle.sheet.proofs.sections.front.Goals as goal
 
@@ -43,11 +43,10 @@ module _ (s : List ℕ) {a : Field} (A : a ≡ field_of (λ n. n) (λ _. moved (
   abbrev answer : Field
   answer = field_of (λ x. length x.rules) cursor_of (front s)
 
-  stop_1 : {k p : ℕ} → a ≡ Refused k p → a ≡ answer
+  stop_1 : {q : Refusal} → a ≡ Err q → a ≡ answer
   unfolding front
   stop_1 told =
-      let e = was_refused (λ n. n) (λ _. moved (before 0 0)) (count_at s 15 0) A told in
-      told ∙ rw e
+      was_refused (λ n. n) (λ _. moved (before 0 0)) (count_at s 15 0) A (λ _ _ e. rw e) told
 
   module _ {n : ℕ} {c₁ : Cursor} (ta : a ≡ Got n c₁) where
     counted : (count_at s 15 0 ≡ field n c₁.at) × (c₁ ≡ before 0 c₁.at)
@@ -59,11 +58,10 @@ module _ (s : List ℕ) {a : Field} (A : a ≡ field_of (λ n. n) (λ _. moved (
     names-step = times n [] (name_at s) c₁.at
 
     module _ {b : Field} (B : b ≡ field_of (λ _. n) (λ _. moved (with_atoms n c₁)) names-step) where
-      stop_2 : {k p : ℕ} → b ≡ Refused k p → b ≡ answer
+      stop_2 : {q : Refusal} → b ≡ Err q → b ≡ answer
       unfolding front
       stop_2 told =
-          let e = was_refused (λ _. n) (λ _. moved (with_atoms n c₁)) names-step B told in
-          told ∙ rw (counted.0, e)
+          was_refused (λ _. n) (λ _. moved (with_atoms n c₁)) names-step B (λ _ _ e. rw (counted.0, e)) told
 
       module _ {v₂ : ℕ} {c₂ : Cursor} (tb : b ≡ Got v₂ c₂) where
         named : (names : List (List ℕ)) × (names-step ≡ field names c₂.at) × (c₂ ≡ before n c₂.at)
@@ -72,12 +70,11 @@ module _ (s : List ℕ) {a : Field} (A : a ≡ field_of (λ n. n) (λ _. moved (
             (names, e, p ∙ ap (λ z. moved (with_atoms n z) c₂.at) counted.1)
 
         module _ {d : Field} (D : d ≡ field_of (λ n. n) (λ _. moved c₂) (count_at s 64 c₂.at)) where
-          stop_3 : {k p : ℕ} → d ≡ Refused k p → d ≡ answer
+          stop_3 : {q : Refusal} → d ≡ Err q → d ≡ answer
           unfolding front
           stop_3 told =
               let (_, names, _) = named in
-              let e = was_refused (λ n. n) (λ _. moved c₂) (count_at s 64 c₂.at) D told in
-              told ∙ rw (counted.0, names, e)
+              was_refused (λ n. n) (λ _. moved c₂) (count_at s 64 c₂.at) D (λ _ _ e. rw (counted.0, names, e)) told
 
           module _ {m : ℕ} {c₃ : Cursor} (td : d ≡ Got m c₃) where
             rule_count : (count_at s 64 c₂.at ≡ field m c₃.at) × (c₃ ≡ before n c₃.at)
@@ -103,12 +100,11 @@ module _ (s : List ℕ) {a : Field} (A : a ≡ field_of (λ n. n) (λ _. moved (
                   F ∙ ap (λ z. field_of (λ _. m) (λ rules. moved (noted (with_rules_lem m z) rules)) (times m [] (λ _. rule_at s z.atoms) z.at))
                   rule_count.1
 
-              stop_4 : {k p : ℕ} → f ≡ Refused k p → f ≡ answer
+              stop_4 : {q : Refusal} → f ≡ Err q → f ≡ answer
               unfolding front
               stop_4 told =
                   let (_, names, _) = named in
-                  let e = was_refused (λ _. m) rules-cursor rules-step of_atoms told in
-                  told ∙ rw (counted.0, names, rule_count.0, e)
+                  was_refused (λ _. m) rules-cursor rules-step of_atoms (λ _ _ e. rw (counted.0, names, rule_count.0, e)) told
 
               read_whole : (rules : List (List ℕ)) (end : ℕ) → rules-step ≡ field rules end → Got m (rules-cursor rules end) ≡ answer
               unfolding front
@@ -127,28 +123,28 @@ module _ (s : List ℕ) {a : Field} (A : a ≡ field_of (λ n. n) (λ _. moved (
               ends = go f refl
                 where
                   go : (q : Field) → f ≡ q → f ≡ answer
-                  go (Got v c₄) told = done told
-                  go (Refused k p) told = stop_4 told
+                  go (Ok x) told = done told
+                  go (Err r) told = stop_4 told
 
 pub returns-in_default : goal.returns-in_default
 returns-in_default c = stop_1 c.args.s.now c.count-a.ensures c.in_default.is
 
 pub returns-in_default-b : goal.returns-in_default-b
-returns-in_default-b c = stop_2 c.args.s.now c.count-a.ensures c.in-Got.is
+returns-in_default-b c = stop_2 c.args.s.now c.count-a.ensures c.in-Ok.is
     c.names-b.ensures c.in_default-b.is
 
 pub returns-in_default-c : goal.returns-in_default-c
-returns-in_default-c c = stop_3 c.args.s.now c.count-a.ensures c.in-Got.is
-    c.names-b.ensures c.in-Got-b.is
+returns-in_default-c c = stop_3 c.args.s.now c.count-a.ensures c.in-Ok.is
+    c.names-b.ensures c.in-Ok-b.is
     c.count-c.ensures c.in_default-c.is
 
 pub rules-requires : goal.rules-requires
-rules-requires c = few c.args.s.now c.count-a.ensures c.in-Got.is
-    c.names-b.ensures c.in-Got-b.is
-    c.count-c.ensures c.in-Got-c.is
+rules-requires c = few c.args.s.now c.count-a.ensures c.in-Ok.is
+    c.names-b.ensures c.in-Ok-b.is
+    c.count-c.ensures c.in-Ok-c.is
 
 pub returns : goal.returns
-returns c = ends c.args.s.now c.count-a.ensures c.in-Got.is
-    c.names-b.ensures c.in-Got-b.is
-    c.count-c.ensures c.in-Got-c.is
+returns c = ends c.args.s.now c.count-a.ensures c.in-Ok.is
+    c.names-b.ensures c.in-Ok-b.is
+    c.count-c.ensures c.in-Ok-c.is
     c.rules.ensures

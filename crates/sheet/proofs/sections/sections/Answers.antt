@@ -9,9 +9,9 @@ use Rattle.semantics.specs.Definitions.Reading.{field, refused, times}
 use Rattle.semantics.specs.Definitions.Sheet.{Opposites, Sheet, atoms, with_pairs, count_at, pair_at, front, pairs_at, sections}
 use Rattle.semantics.specs.Theorems.Reading.{times-length}
 use Rattle.sheet.specs.declared.steps.Cursor.{Cursor}
-use Rattle.sheet.specs.declared.steps.Field.{Field}
-use Rattle.sheet.specs.declared.steps.Field.TheVariants.{Got, Refused}
-use Rattle.sheet.specs.Steps.{field_of, moved, cursor_of}
+use Rattle.answers.specs.declared.refusal.Refusal.{Refusal}
+use Rattle.std.specs.Prelude.{Err}
+use Rattle.sheet.specs.Steps.{Field, Got, Refused, field_of, moved, cursor_of}
 use Rattle.sheet.proofs.Laws.{was_field, was_refused}
 use Rattle.sheet.proofs.sections.sections.Goals as goal
 
@@ -58,8 +58,9 @@ with_pairs_lem m c = record {
 }
 
 module _ (s : List ℕ) {a : Field} (A : a ≡ field_of (λ x. length x.rules) cursor_of (front s)) where
-  stop_1 : {k p : ℕ} → a ≡ Refused k p → a ≡ answer s
-  stop_1 told = told ∙ no_front s (was_refused (λ x. length x.rules) cursor_of (front s) A told)
+  stop_1 : {q : Refusal} → a ≡ Err q → a ≡ answer s
+  stop_1 told =
+      was_refused (λ x. length x.rules) cursor_of (front s) A (λ _ _ e. no_front s e) told
 
   module _ {n : ℕ} {c₁ : Cursor} (ta : a ≡ Got n c₁) where
     fronted : (x : Sheet) × (at : ℕ) × (front s ≡ field x at) × (n ≡ length x.rules) × (c₁ ≡ cursor_of x at)
@@ -69,10 +70,10 @@ module _ (s : List ℕ) {a : Field} (A : a ≡ field_of (λ x. length x.rules) c
       count_from : (x : Sheet) (at : ℕ) → c₁ ≡ cursor_of x at → b ≡ field_of (λ n. n) (λ _. moved (cursor_of x at)) (count_at s 7 at)
       count_from x at p = subst (λ c. b ≡ field_of (λ n. n) (λ _. moved c) (count_at s 7 c.at)) p B
 
-      stop_2 : {k p : ℕ} → b ≡ Refused k p → b ≡ answer s
+      stop_2 : {q : Refusal} → b ≡ Err q → b ≡ answer s
       stop_2 told =
           let (x, at, F, _, p) = fronted in
-          told ∙ no_count s x at F (was_refused (λ n. n) (λ _. moved (cursor_of x at)) (count_at s 7 at) (count_from x at p) told)
+          was_refused (λ n. n) (λ _. moved (cursor_of x at)) (count_at s 7 at) (count_from x at p) (λ _ _ e. no_count s x at F e) told
 
       module _ {m : ℕ} {c₂ : Cursor} (tb : b ≡ Got m c₂) where
         -- the sheet so far, and where its pairs begin
@@ -91,11 +92,10 @@ module _ (s : List ℕ) {a : Field} (A : a ≡ field_of (λ x. length x.rules) c
               → d ≡ field_of (λ _. m) (pairs-cursor x at next) (times m [] (pair_at s (atoms x)) next)
           pairs-from x at next q = subst (λ c. d ≡ field_of (λ _. m) (λ _. moved (with_pairs_lem m c)) (times m [] (pair_at s c.atoms) c.at)) q D
 
-          stop_3 : {k p : ℕ} → d ≡ Refused k p → d ≡ answer s
+          stop_3 : {q : Refusal} → d ≡ Err q → d ≡ answer s
           stop_3 told =
               let (x, at, next, F, _, C, q) = counted in
-              told ∙ no_pairs s x at F m next C
-              (was_refused (λ _. m) (pairs-cursor x at next) (times m [] (pair_at s (atoms x)) next) (pairs-from x at next q) told)
+              was_refused (λ _. m) (pairs-cursor x at next) (times m [] (pair_at s (atoms x)) next) (pairs-from x at next q) (λ _ _ e. no_pairs s x at F m next C e) told
 
           module _ {v : ℕ} {c₃ : Cursor} (td : d ≡ Got v c₃) where
             over_all : (c₃.at ≡ length s → ⊥) → Refused 6 c₃.at ≡ answer s
@@ -118,20 +118,20 @@ pub returns-in_default : goal.returns-in_default
 returns-in_default c = stop_1 c.args.s.now c.front-a.ensures c.in_default.is
 
 pub returns-in_default-b : goal.returns-in_default-b
-returns-in_default-b c = stop_2 c.args.s.now c.front-a.ensures c.in-Got.is
+returns-in_default-b c = stop_2 c.args.s.now c.front-a.ensures c.in-Ok.is
     c.count-b.ensures c.in_default-b.is
 
 pub returns-in_default-c : goal.returns-in_default-c
-returns-in_default-c c = stop_3 c.args.s.now c.front-a.ensures c.in-Got.is
-    c.count-b.ensures c.in-Got-b.is
+returns-in_default-c c = stop_3 c.args.s.now c.front-a.ensures c.in-Ok.is
+    c.count-b.ensures c.in-Ok-b.is
     c.pairs-c.ensures c.in_default-c.is
 
 pub returns-then-end-s : goal.returns-then-end-s
-returns-then-end-s c = accepted c.args.s.now c.front-a.ensures c.in-Got.is
-    c.count-b.ensures c.in-Got-b.is
-    c.pairs-c.ensures c.in-Got-c.is c.if-end-s.true
+returns-then-end-s c = accepted c.args.s.now c.front-a.ensures c.in-Ok.is
+    c.count-b.ensures c.in-Ok-b.is
+    c.pairs-c.ensures c.in-Ok-c.is c.if-end-s.true
 
 pub returns : goal.returns
-returns c = over_all c.args.s.now c.front-a.ensures c.in-Got.is
-    c.count-b.ensures c.in-Got-b.is
-    c.pairs-c.ensures c.in-Got-c.is c.if-end-s.false
+returns c = over_all c.args.s.now c.front-a.ensures c.in-Ok.is
+    c.count-b.ensures c.in-Ok-b.is
+    c.pairs-c.ensures c.in-Ok-c.is c.if-end-s.false
