@@ -1,6 +1,5 @@
 -- `stable::growth::grown` meets its contract: it has nothing that a closed set lacks, and each pass but the last adds an atom of i. Assumes
 -- nothing.
-use mathlib.Core.Path.{sym}
 use native.Mathlib.Omega.{arith}
 use Rattle.sets.specs.Members.{⊆_le, ⊂_less}
 use Rattle.stable.specs.Applied.{positive_program}
@@ -14,7 +13,7 @@ loop-l-smaller c =
     let g = c.pass-m.ensures in
     let a = c.args in
     let whole = whole_closed (positive_program a.positive.now) a.i in
-    let more = ⊂_less (record { within = g.kept; differ = λ e. c.if-m-l.false (sym e) }) in
+    let more = ⊂_less (record { within = g.kept; differ = λ e. omega arith }) in
     omega (arith, more, ⊆_le (g.within whole (l.invariant a.i whole)))
 
 pub returns : goal.returns
