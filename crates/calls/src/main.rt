@@ -24,21 +24,25 @@
 // is cut off, has bytes left or is over a bound. A read or a write that fails ends it with its error.
 #![tactic(auto)]
 
-mod answers;
+mod call;
 mod companion;
+mod fields;
 mod line;
 mod output;
 mod request;
 mod shared;
 
-use request::request;
+use request::{End, request};
 use std::io;
 
-// A proved loop ends, and nothing says that the input does: the requests are counted down from 2^62.
+// A proved loop ends, and nothing says that the input does: the requests are counted up to 2^64.
 fn main(rt: HostRuntime) -> io::Result<()> {
-    let mut left: u64 = 4611686018427387904;
-    while 0 < left && request(rt.stdin(), rt.stdout())? {
-        left -= 1;
+    for _ in 0..u64::MAX {
+        match request(rt.stdin(), rt.stdout()) {
+            Ok(()) => {}
+            Err(End::NoRequest) => return Ok(()),
+            Err(End::Failed(error)) => return Err(error),
+        }
     }
     Ok(())
 }

@@ -1,80 +1,79 @@
-// A line in a buffer of its own: what stands in the first `at` bytes is written out where the next field may not fit.
-ghost use Rattle.std.specs.Prelude.{◌+◌, ◌≤◌, length};
+// A line in a buffer of its own: what stands there is written out where the next field may not fit.
+ghost use Rattle.std.specs.Prelude.{◌≡◌, ◌+◌, ◌≤◌, length, OnOk};
 
+use super::call::Call;
 use std::io;
 use std::io::{Stdout, Write};
 
-// Standard output, and the first failure of a write to it: after it nothing more is written.
 #[derive(Drop)]
-pub struct Output {
+pub struct Line {
+    bytes: [u8; 65536],
+    at: usize,
     to: Stdout,
-    failed: Option<io::Error>,
+    ghost within: { at ≤ 65536 },
 }
 
-pub fn begin(to: Stdout) -> Output {
-    Output { to, failed: None }
-}
-
-// The failure, if there was one.
-pub fn end(output: Output) -> io::Result<()> {
-    match output.failed {
-        Some(e) => Err(e),
-        None => Ok(()),
+impl Line {
+    // The line of a call begins with its number.
+    pub fn new(call: Call, to: Stdout) -> Line {
+        let mut bytes = [0u8; 65536];
+        let at = text::put_decimal(call as usize, 0, &mut bytes);
+        Line { bytes, at, to }
     }
-}
 
-// Room for 64 bytes more.
-fn room(at: usize, out: &mut [u8], output: &mut Output) -> usize
-    requires { (at ≤ length out.old) × (1024 ≤ length out.old) }
-    ensures { result + 64 ≤ length out.new }
-{
-    if out.len() - at < 64 {
-        flush(at, out, output);
-        return 0;
-    }
-    at
-}
-
-// A space and a number.
-pub fn field(n: usize, at: usize, out: &mut [u8], output: &mut Output) -> usize
-    requires { (at ≤ length out.old) × (1024 ≤ length out.old) }
-    ensures { result ≤ length out.new }
-{
-    let a = room(at, out, output);
-    text::put_field(n, a, out)
-}
-
-// A few bytes.
-pub fn mark(bytes: &[u8], at: usize, out: &mut [u8], output: &mut Output) -> usize
-    requires { (length bytes.now ≤ 64) × (at ≤ length out.old) × (1024 ≤ length out.old) }
-    ensures { result ≤ length out.new }
-{
-    let a = room(at, out, output);
-    text::put(bytes, a, out)
-}
-
-fn wide(w: u16) -> usize {
-    w as usize
-}
-
-// All words.
-pub fn each(words: &[u16], from: usize, out: &mut [u8], output: &mut Output) -> usize
-    requires { (from ≤ length out.old) × (1024 ≤ length out.old) }
-    ensures { result ≤ length out.new }
-{
-    let mut at = from;
-    for i in 0..words.len() {
-        at = field(wide(words[i]), at, out, output);
-    }
-    at
-}
-
-pub fn flush(at: usize, out: &[u8], output: &mut Output)
-    requires { at ≤ length out.now }
-{
-    if output.failed.is_none() {
-        if let Err(e) = output.to.write_all(&out[0..at]) {
-            output.failed = Some(e);
+    // Room for 64 bytes more.
+    fn make_room(&mut self) -> io::Result<()>
+        ensures { OnOk result (self.new.at + 64 ≤ 65536) }
+    {
+        if 65536 - self.at < 64 {
+            self.flush()?;
         }
+        Ok(())
+    }
+
+    // A space and a number.
+    pub fn field(&mut self, n: usize) -> io::Result<()> {
+        self.make_room()?;
+        self.at = text::put_field(n, self.at, &mut self.bytes);
+        Ok(())
+    }
+
+    pub fn fields(&mut self, numbers: &[usize]) -> io::Result<()> {
+        for n in numbers {
+            self.field(*n)?;
+        }
+        Ok(())
+    }
+
+    pub fn words(&mut self, words: &[u16]) -> io::Result<()> {
+        for w in words {
+            self.field(usize::from(*w))?;
+        }
+        Ok(())
+    }
+
+    // A few bytes.
+    pub fn mark(&mut self, mark: &[u8]) -> io::Result<()>
+        requires { length mark.now ≤ 64 }
+    {
+        self.make_room()?;
+        self.at = text::put(mark, self.at, &mut self.bytes);
+        Ok(())
+    }
+
+    // The end of the line, and what is left of it written out.
+    pub fn end(&mut self) -> io::Result<()> {
+        self.mark(b"\n")?;
+        self.flush()
+    }
+
+    fn flush(&mut self) -> io::Result<()>
+        ensures { OnOk result (self.new.at ≡ 0) }
+    {
+        let mut to = self.to;
+        let n = self.at;
+        to.write_all(&self.bytes[..n])?;
+        self.at = 0;
+        Ok(())
     }
 }

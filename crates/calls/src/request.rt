@@ -1,125 +1,87 @@
-// A request from standard input, field by field. `request`, and each `from_` function from its field on, answers whether the rest was
-// there and within the bounds.
-ghost use Rattle.std.specs.Prelude.{◌≤◌};
+// A request from standard input, field by field.
+ghost use Rattle.std.specs.Prelude.{◌≤◌, IfOk};
 
+use super::call::Call;
 use super::line::respond;
 use super::shared::respond_shared;
 use std::io;
 use std::io::{ErrorKind, Read, Stdin, Stdout};
 
+// Why no answer follows: the input has no whole request within the bounds, or a read or a write failed.
+#[derive(Drop)]
+pub enum End {
+    NoRequest,
+    Failed(io::Error),
+}
+
+impl From<io::Error> for End {
+    fn from(error: io::Error) -> End {
+        End::Failed(error)
+    }
+}
+
 // The call, and what it takes beside the sheet, the companion and the cells: the argument, and the day's masks.
 #[derive(Clone, Copy)]
 pub struct Asked {
-    pub call: u8,
+    pub call: Call,
     pub argument: u32,
     pub ins: u16,
     pub outs: u16,
 }
 
-pub fn wide(b: u8) -> u16
-    ensures { result ≤ 255 }
-{
-    b as u16
-}
-
-// Two bytes, the low one first.
-pub fn word(low: u8, high: u8) -> u16 {
-    wide(low) + 256 * wide(high)
-}
-
-// Two words, the low one first.
-fn number(low: u16, high: u16) -> u32 {
-    low as u32 + 65536 * (high as u32)
-}
-
-// Fills the slice, and answers whether the input had so many bytes.
-fn filled(mut input: Stdin, buffer: &mut [u8]) -> io::Result<bool> {
+// Fills the slice.
+fn fill(mut input: Stdin, buffer: &mut [u8]) -> Result<(), End> {
     match input.read_exact(buffer) {
-        Ok(()) => Ok(true),
-        Err(e) if e.kind() == ErrorKind::UnexpectedEof => Ok(false),
-        Err(e) => Err(e),
+        Ok(()) => Ok(()),
+        Err(e) if e.kind() == ErrorKind::UnexpectedEof => Err(End::NoRequest),
+        Err(e) => Err(End::Failed(e)),
     }
 }
 
-// How many cells, and what the first holds.
-fn from_cells(
-    asked: Asked,
-    sheet: &[u8],
-    companion: &[u8],
-    input: Stdin,
-    stdout: Stdout,
-) -> io::Result<bool> {
-    let mut b = [0u8; 4];
-    if !filled(input, &mut b)? {
-        return Ok(false);
+// A length that is not over its bound.
+fn within(low: u8, high: u8, bound: usize) -> Result<usize, End>
+    ensures { IfOk result (λ n. n ≤ bound) }
+{
+    let n = usize::from(u16::from_le_bytes([low, high]));
+    if bound < n {
+        return Err(End::NoRequest);
     }
-    let count = word(b[0], b[1]) as usize;
-    if 33000 < count {
-        return Ok(false);
-    }
-    let first = word(b[2], b[3]);
-    if asked.call == 7 {
-        return respond_shared(companion, asked.argument as usize, first, stdout);
-    }
-    respond(asked, sheet, companion, count, first, stdout)?;
-    Ok(true)
+    Ok(n)
 }
 
-// The companion, as long as the slice.
-fn from_companion(
-    asked: Asked,
-    sheet: &[u8],
-    companion: &mut [u8],
-    input: Stdin,
-    stdout: Stdout,
-) -> io::Result<bool> {
-    if !filled(input, companion)? {
-        return Ok(false);
-    }
-    from_cells(asked, sheet, companion, input, stdout)
-}
-
-// The argument, the masks and the companion's length.
-fn from_argument(call: u8, sheet: &[u8], input: Stdin, stdout: Stdout) -> io::Result<bool> {
+// Reads a request and answers it.
+pub fn request(input: Stdin, stdout: Stdout) -> Result<(), End> {
+    let mut a = [0u8; 3];
+    fill(input, &mut a)?;
+    let call = Call::try_from(a[0])?;
+    let bytes = within(a[1], a[2], 2048)?;
+    let mut sheet = [0u8; 2048];
+    fill(input, &mut sheet[..bytes])?;
     let mut b = [0u8; 10];
-    if !filled(input, &mut b)? {
-        return Ok(false);
-    }
+    fill(input, &mut b)?;
     let asked = Asked {
         call,
-        argument: number(word(b[0], b[1]), word(b[2], b[3])),
-        ins: word(b[4], b[5]),
-        outs: word(b[6], b[7]),
+        argument: u32::from_le_bytes([b[0], b[1], b[2], b[3]]),
+        ins: u16::from_le_bytes([b[4], b[5]]),
+        outs: u16::from_le_bytes([b[6], b[7]]),
     };
-    let n = word(b[8], b[9]) as usize;
-    if 12288 < n {
-        return Ok(false);
-    }
+    let beside = within(b[8], b[9], 12288)?;
     let mut companion = [0u8; 12288];
-    from_companion(asked, sheet, &mut companion[0..n], input, stdout)
-}
-
-// The sheet, as long as the slice.
-fn from_sheet(call: u8, sheet: &mut [u8], input: Stdin, stdout: Stdout) -> io::Result<bool> {
-    if !filled(input, sheet)? {
-        return Ok(false);
+    fill(input, &mut companion[..beside])?;
+    let mut c = [0u8; 4];
+    fill(input, &mut c)?;
+    let cells = within(c[0], c[1], 33000)?;
+    let first = u16::from_le_bytes([c[2], c[3]]);
+    if call == Call::SharedAllowance {
+        return respond_shared(&companion[..beside], asked.argument as usize, first, stdout);
     }
-    from_argument(call, sheet, input, stdout)
-}
-
-pub fn request(input: Stdin, stdout: Stdout) -> io::Result<bool> {
-    let mut b = [0u8; 3];
-    if !filled(input, &mut b)? {
-        return Ok(false);
-    }
-    let call = b[0];
-    let n = word(b[1], b[2]) as usize;
-    if 7 < call {
-        return Ok(false);
-    }
-    if 2048 < n {
-        return Ok(false);
-    }
-    let mut sheet = [0u8; 2048];
-    from_sheet(call, &mut sheet[0..n], input, stdout)
+    respond(
+        asked,
+        &sheet[..bytes],
+        &companion[..beside],
+        cells,
+        first,
+        stdout,
+    )?;
+    Ok(())
 }

@@ -25,7 +25,7 @@ pub use answers::{Reason, Refusal, Tally};
 use calendar::minutes_of_change;
 use in_order::{list_from, list_in_order};
 use lent::write;
-pub use sharing::{Share, Shared, Shares, share};
+pub use sharing::{Share, SharedRefusal, Shares, share};
 use sheet::open;
 use source::minute::{at_minute, with_calendar};
 use source::{for_atom, for_guess, of_day};

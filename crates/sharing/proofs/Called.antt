@@ -1,6 +1,6 @@
 -- The sheets as they are read, and the whole call. Assumes nothing.
 use Prim.Native.Nat.{ℕ, ◌≤◌, ◌<◌}
-use mathlib.Core.Path.{◌≡◌, refl, sym, ap, ap₂, ◌∙◌, subst}
+use mathlib.Core.Path.{◌≡◌, refl, sym, ap, ◌∙◌, subst}
 use mathlib.Core.List.{List, []}
 use native.Mathlib.Nat.{zero-add}
 use native.Mathlib.Omega.{arith}
@@ -9,15 +9,16 @@ use lib.ListN.{length, get_or, take, length-map}
 use lib.Seq.{length-take-le, get_or-take}
 use Rattle.sets.specs.Lists.{up_to, length-up_to, get_or-up_to}
 use Rattle.semantics.specs.Definitions.Setting.{Setting}
-use Rattle.semantics.specs.Definitions.Returned.{Returned, accepted, refusal}
+use Rattle.semantics.specs.Definitions.Returned.{Returned, accepted}
 use Rattle.semantics.specs.Definitions.Check.{of_sheet}
 use Rattle.semantics.specs.Definitions.Sharing.{shares_of, granted, denied, ◌and_so◌, of_sheets, shares_into, share_call}
 use Rattle.allowance.specs.SheetBySheet.{each_granted, each_denied}
 use Rattle.guess.specs.declared.outline.Outline.{Outline}
 use Rattle.source.specs.Sources.{Source}
-use Rattle.std.specs.Prelude.{Ok, Err}
+use Rattle.std.specs.Prelude.{Ok, Some, None}
+use Rattle.answers.specs.Refusals.{number_of}
 use Rattle.source.specs.Sources.{Reads}
-use Rattle.sharing.specs.declared.sheets.Refusal.TheVariants.{None, At}
+use Rattle.sharing.specs.declared.result.SharedRefusal.{SharedRefusal}
 use Rattle.sharing.specs.Held.{unread, setting_from, IsRead, setting_at, settings_in, ReadTo, AllRead}
 use Rattle.sharing.specs.Refusals.{AcceptedTo, FirstRefused}
 
@@ -47,11 +48,14 @@ module _ (sources : List Source) (words sheets : List (List ℕ)) (n : ℕ) (few
       let b : q < n = omega (arith, h, first_n) in
       is_setting n (omega arith) all q b ∙ ap accepted (sym (get_or-up_to (setting_at sources words) none n q b)))
 
-  pub sheets_denied : {number place position : ℕ} → FirstRefused sources n (At number place position) → of_sheets (take n sheets) ≡ denied number place position
-  sheets_denied {number} {place} {position} (h, all, (q, e, m, k)) =
-      each_denied (λ _ sheet. of_sheet sheet) 0 (take n sheets) [] position number place (omega (arith, h, first_n)) (λ p b. (setting_at sources words p, is_setting position (omega (arith, h)) all p b))
-      (ap of_sheet (get_or-take n sheets position [] h) ∙ subst (λ z. Reads (of_sheet (get_or sheets position [])) z (get_or words position [])) e (read position h) ∙ ap₂ refusal (sym m) (sym k))
-      ∙ ap (denied number place) (zero-add position)
+  pub sheets_denied : {r : SharedRefusal} → FirstRefused sources n (Some r)
+      → of_sheets (take n sheets) ≡ denied (number_of r.refusal.reason) r.refusal.place r.position
+  sheets_denied {r} (h, all, e) =
+      let position = r.position in
+      let number = number_of r.refusal.reason in
+      each_denied (λ _ sheet. of_sheet sheet) 0 (take n sheets) [] position number r.refusal.place (omega (arith, h, first_n)) (λ p b. (setting_at sources words p, is_setting position (omega (arith, h)) all p b))
+      (ap of_sheet (get_or-take n sheets position [] h) ∙ subst (λ z. Reads (of_sheet (get_or sheets position [])) z (get_or words position [])) e (read position h))
+      ∙ ap (denied number r.refusal.place) (zero-add position)
 
 -- ---- the whole call
 module _ (count : ℕ) (sheets : List (List ℕ)) (allowance : ℕ) (rooms : List ℕ) where

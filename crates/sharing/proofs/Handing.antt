@@ -21,7 +21,10 @@ use Rattle.listing.specs.declared.paused.Paused.{Paused}
 use Rattle.records.specs.Records.{views_in, views_in_long}
 use Rattle.listing.specs.Pauses.{fresh, waits}
 use Rattle.sharing.specs.Held.{setting_at, settings_in, Served, spent_in, Idle}
-use Rattle.sharing.specs.declared.sheets.Refusal.TheVariants.{At}
+use Rattle.std.specs.Prelude.{Some}
+use Rattle.answers.specs.Refusals.{number_of}
+use Rattle.answers.specs.declared.refusal.Refusal.{Refusal}
+use Rattle.sharing.specs.declared.result.SharedRefusal.{SharedRefusal}
 use Rattle.sharing.specs.Refusals.{FitTo, FirstShort}
 use Rattle.sharing.specs.Handed.{four, numbers_at, carried_in, handed_at}
 
@@ -127,8 +130,13 @@ module _ (sources : List Source) (words' : List (List ℕ)) (n allowance : ℕ) 
         ap (λ r. r and_so λ _. granted (shares_of allowance ss))
         (each_granted (share_into rooms) 0 each each none none refl (λ q h. fit q (omega (arith, h, each_long)) (fits q (omega (arith, h, each_long)))))
 
-    pub one_short : {number place position : ℕ} → FirstShort states rooms n (At number place position) → shares_into rooms (shares_of allowance ss) ≡ denied number place position
-    one_short {number} {place} {position} (h, fits, short, nine, views) =
+    pub one_short : {r : SharedRefusal} → FirstShort states rooms n (Some r)
+        → shares_into rooms (shares_of allowance ss) ≡ denied (number_of r.refusal.reason) r.refusal.place r.position
+    one_short {r} (h, fits, short, is) =
+        let position = r.position in
+        let place = r.refusal.place in
+        let nine : number_of r.refusal.reason ≡ 9 = ap (λ (q : Refusal). number_of q.reason) is in
+        let views : place ≡ (get_or states position fresh).tally.views = ap (λ (q : Refusal). q.place) is in
         let x = get_or each position none in
         let refused : share_into rooms (0 + position) x ≡ refusal 9 (length x.views) = subst (λ m. share_into rooms m x ≡ refusal 9 (length x.views)) (sym (zero-add position))
         (short_limited (4 * length x.views) (get_or rooms position 0) (length x.views) x (omega (arith, short, views_number position h none))) in

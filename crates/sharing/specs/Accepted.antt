@@ -1,5 +1,5 @@
 -- Document 02, K4, of the call `share` where it accepts: what it answers of all sheets, and what other calls would give each. Assumes nothing.
-use Rattle.std.specs.Prelude.{ℕ, ◌+◌, ◌*◌, ◌/◌, ◌≤◌, ◌<◌, ◌≡◌, refl, true, false, List, [], ◌∷◌, map, ◌⊎◌, take, drop}
+use Rattle.std.specs.Prelude.{ℕ, ◌+◌, ◌*◌, ◌/◌, ◌≤◌, ◌<◌, ◌≡◌, refl, true, false, List, [], ◌∷◌, map, ◌⊎◌, take, drop, Ok, Err}
 use Rattle.std.proofs.Math.Path.{sym, ap}
 use Rattle.std.proofs.Common.{ap₂, ◌∙◌, subst, inl, inr, ⊎_elim, length-append, take_at}
 use native.Mathlib.Omega.{arith}
@@ -19,9 +19,7 @@ use Rattle.allowance.specs.ShareCall.{AllRead, reached, Granted, share_granted}
 use Rattle.allowance.specs.Carried.{Reached, reached_so, carried-at, carried_none, carried_tests, handed-at, handed-none, read_once, alone-reached}
 use Rattle.sharing.specs.declared.result.Share.{Share}
 use Rattle.sharing.specs.declared.result.Shares.{Shares}
-use Rattle.sharing.specs.declared.result.Shared.{Shared}
-use Rattle.sharing.specs.declared.result.Shared.TheVariants.{Accepted, Refused}
-use Rattle.sharing.specs.Answers.{numbers_from, carried_by, shared}
+use Rattle.sharing.specs.Answers.{numbers_from, carried_by, Shared, shared}
 use Rattle.sharing.specs.Shares.{at, no_share, share_at, SameRecords, AsShared, SheetShare, begins, share_for, sheet-share}
 
 -- ---- of the call, where it answers s
@@ -44,21 +42,21 @@ pub record SharedOut (count : ℕ) (sheets : List (List ℕ)) (allowance : ℕ) 
   -- "its own listing": the sheet alone, its tests the allowance, has the same share and the same records in any buffer where they fit
   pub alone : (q : ℕ) → q < count → (others : List (List ℕ)) (r' : Shared) (before' after' : List (List ℕ)) → at others 0 ≡ at sheets q
       → AsShared 1 others (share_at s q).tests r' before' after' → 4 * (share_at s q).views ≤ length (at before' 0)
-      → (s' : Shares) × (r' ≡ Accepted s') × (s'.first ≡ share_at s q) × SameRecords (share_at s q).views (at after' 0) (at after q)
+      → (s' : Shares) × (r' ≡ Ok s') × (s'.first ≡ share_at s q) × SameRecords (share_at s q).views (at after' 0) (at after q)
   -- "whatever the other sheets hold": in any call, at any position, with as many tests
   pub whatever_others : (q : ℕ) → q < count → (count' : ℕ) (others : List (List ℕ)) (allowance' : ℕ) (s' : Shares) (before' after' : List (List ℕ))
-      → AsShared count' others allowance' (Accepted s') before' after' → (p : ℕ) → p < count' → at others p ≡ at sheets q
+      → AsShared count' others allowance' (Ok s') before' after' → (p : ℕ) → p < count' → at others p ≡ at sheets q
       → (share_at s' p).tests ≡ (share_at s q).tests → (share_at s' p ≡ share_at s q) × SameRecords (share_at s q).views (at after' p) (at after q)
   -- "with buffers long enough a larger allowance only adds views": the records are the first of those
   pub larger_adds : (larger : ℕ) → allowance ≤ larger → (s' : Shares) (before' after' : List (List ℕ))
-      → AsShared count sheets larger (Accepted s') before' after' → (q : ℕ) → q < count
+      → AsShared count sheets larger (Ok s') before' after' → (q : ℕ) → q < count
       → ((share_at s q).views ≤ (share_at s' q).views) × SameRecords (share_at s q).views (at after' q) (at after q)
 
 -- ---- proofs
 -- an answer that is no refusal
-pub is_accepted : (r : Shared) {v : Carried} → shared r ≡ granted v → (s : Shares) × (r ≡ Accepted s) × (carried_by s ≡ v)
-is_accepted (Accepted s) e = (s, refl, cc)
-is_accepted (Refused number place position) e = unequal cc
+pub is_accepted : (r : Shared) {v : Carried} → shared r ≡ granted v → (s : Shares) × (r ≡ Ok s) × (carried_by s ≡ v)
+is_accepted (Ok s) e = (s, refl, cc)
+is_accepted (Err q) e = unequal cc
 
 carried_granted : (c : meant.Shared meant.Shares) {v : Carried} → carried c ≡ granted v → (w : meant.Shares) × (c ≡ granted w)
 carried_granted (granted w) e = (w, refl)
@@ -94,7 +92,7 @@ record Given (count : ℕ) (sheets : List (List ℕ)) (allowance : ℕ) (s : Sha
 
 module _ {count : ℕ} {sheets : List (List ℕ)} {allowance : ℕ} {r : Shared} {before after : List (List ℕ)} (c : AsShared count sheets allowance r before after) where
   call_given : (ss : List Setting) → Granted count sheets allowance (map length before) ss
-      → (s : Shares) × (r ≡ Accepted s) × Given count sheets allowance s before after ss
+      → (s : Shares) × (r ≡ Ok s) × Given count sheets allowance s before after ss
   unfolding in_all
   call_given ss g =
       let d = (share_granted count sheets c.four-sheets allowance (map length before) (shares_of allowance ss)).1 (ss, g, refl) in
@@ -124,7 +122,7 @@ module _ {count : ℕ} {sheets : List (List ℕ)} {allowance : ℕ} {r : Shared}
         },
       )
 
-module _ {count : ℕ} {sheets : List (List ℕ)} {allowance : ℕ} {s : Shares} {before after : List (List ℕ)} (c : AsShared count sheets allowance (Accepted s) before after) where
+module _ {count : ℕ} {sheets : List (List ℕ)} {allowance : ℕ} {s : Shares} {before after : List (List ℕ)} (c : AsShared count sheets allowance (Ok s) before after) where
   pub accepted_granted : (ss : List Setting) × Granted count sheets allowance (map length before) ss
   accepted_granted =
       let (w, d) = carried_granted (share_call count sheets allowance (map length before)) (sym c.answers) in
@@ -198,7 +196,7 @@ module _ {count : ℕ} {sheets : List (List ℕ)} {allowance : ℕ} {s : Shares}
       ));
     }
 
-    alone-same : (s' : Shares) × (r' ≡ Accepted s') × (s'.first ≡ share_at s q) × SameRecords (share_at s q).views (at after' 0) (at after q)
+    alone-same : (s' : Shares) × (r' ≡ Ok s') × (s'.first ≡ share_at s q) × SameRecords (share_at s q).views (at after' 0) (at after q)
     alone-same =
         let (s', e, w) = call_given of_alone (own ∷ []) grants in
         let tests : (share_at s' 0).tests ≡ (share_at s q).tests =
@@ -220,7 +218,7 @@ module _ {count : ℕ} {sheets : List (List ℕ)} {allowance : ℕ} {s : Shares}
         )
 
 -- ---- the record
-module _ {count : ℕ} {sheets : List (List ℕ)} {allowance : ℕ} {s : Shares} {before after : List (List ℕ)} (c : AsShared count sheets allowance (Accepted s) before after) where
+module _ {count : ℕ} {sheets : List (List ℕ)} {allowance : ℕ} {s : Shares} {before after : List (List ℕ)} (c : AsShared count sheets allowance (Ok s) before after) where
   pub shared-out : SharedOut count sheets allowance s before after
   shared-out =
       let (ss, v) = accepted_given c in

@@ -1,5 +1,5 @@
 -- Document 02, K4, of the answers of the call `share`. Assumes nothing.
-use Rattle.std.specs.Prelude.{ℕ, ◌*◌, ◌≤◌, ◌<◌, ◌≡◌, refl, List, map, ◌↔◌, ◌⊎◌, length, get_or}
+use Rattle.std.specs.Prelude.{ℕ, ◌*◌, ◌≤◌, ◌<◌, ◌≡◌, refl, List, map, ◌↔◌, ◌⊎◌, length, get_or, Ok}
 use Rattle.std.proofs.Common.{sym, ap, ◌∙◌, subst, inl, inr, ⊎_elim, arith}
 use Rattle.sets.specs.Decides.{unequal}
 use Rattle.semantics.specs.Definitions.Reading.{field}
@@ -23,9 +23,7 @@ use Rattle.allowance.specs.Shares.{no_sheet, met_few}
 use Rattle.allowance.specs.ShareCall.{AllRead, SheetRefused, reached, Denied, share_granted, share_denied}
 use Rattle.allowance.specs.Carried.{Reached, met, reached_so, reached-only}
 use Rattle.sharing.specs.declared.result.Shares.{Shares}
-use Rattle.sharing.specs.declared.result.Shared.{Shared}
-use Rattle.sharing.specs.declared.result.Shared.TheVariants.{Accepted, Refused}
-use Rattle.sharing.specs.Answers.{shared}
+use Rattle.sharing.specs.Answers.{Shared, shared}
 use Rattle.sharing.specs.Shares.{at, AsShared}
 use Rattle.sharing.specs.Accepted.{SharedOut, is_accepted, room, accepted_granted, shared-out}
 
@@ -36,41 +34,36 @@ Accepts sheet = (s : Setting) × (of_sheet sheet ≡ accepted s)
 -- ---- r is what `share` answers where it is lent `before`, a buffer for each of four sheets, and leaves `after`
 pub record SharingDemand (count : ℕ) (sheets : List (List ℕ)) (allowance : ℕ) (r : Shared) (before after : List (List ℕ)) : Type 0 where
   -- "14, place and position 0, for no sheet or more than four, before any sheet is read": exactly then, whatever the sheets hold
-  pub fourteen_exactly : (place position : ℕ) → (r ≡ Refused 14 place position) ↔ (((count ≡ 0) ⊎ (4 < count)) × (place ≡ 0) × (position ≡ 0))
+  pub fourteen_exactly : (place position : ℕ) → (shared r ≡ denied 14 place position) ↔ (((count ≡ 0) ⊎ (4 < count)) × (place ≡ 0) × (position ≡ 0))
   -- "the first refusal, sheet by sheet, is returned with the sheet's position from 0": exactly as the check refuses that sheet, those before it accepted
   pub sheet_refused_exactly : (number place position : ℕ) → (number ≡ 9 → ⊥) → (number ≡ 14 → ⊥)
-      → (r ≡ Refused number place position) ↔ ((0 < count) × (count ≤ 4) × (position < count) × ((q : ℕ) → q < position → Accepts (at sheets q))
+      → (shared r ≡ denied number place position) ↔ ((0 < count) × (count ≤ 4) × (position < count) × ((q : ℕ) → q < position → Accepts (at sheets q))
       × Refuses (at sheets position) number place)
   -- "Here 9 is given, with the number of views reached, when those don't fit, and only after every sheet has passed the other checks": exactly then,
   -- with the position of the first such sheet
-  pub nine_exactly : (place position : ℕ) → (r ≡ Refused 9 place position) ↔ ((0 < count) × (count ≤ 4)
+  pub nine_exactly : (place position : ℕ) → (shared r ≡ denied 9 place position) ↔ ((0 < count) × (count ≤ 4)
       × (of : List Setting) × (tests : ℕ → ℕ) × Reached count sheets allowance of tests
       × (position < count) × (place ≡ length (met of tests position)) × (length (at before position) < 4 * place)
       × ((q : ℕ) → q < position → 4 * length (met of tests q) ≤ length (at before q)))
   -- accepted exactly when there are one to four sheets, all are accepted, and all views reached fit
-  pub accepted_exactly : ((s : Shares) × (r ≡ Accepted s)) ↔ ((0 < count) × (count ≤ 4)
+  pub accepted_exactly : ((s : Shares) × (r ≡ Ok s)) ↔ ((0 < count) × (count ≤ 4)
       × (of : List Setting) × (tests : ℕ → ℕ) × Reached count sheets allowance of tests
       × ((q : ℕ) → q < count → 4 * length (met of tests q) ≤ length (at before q)))
   -- "with buffers long enough": those that would take the whole listings, whatever the allowance
   pub long_enough : 0 < count → count ≤ 4 → (of : List Setting) → AllRead count sheets of
-      → ((q n : ℕ) → q < count → Number (get_or of q no_sheet) (WorldView (get_or of q no_sheet)) n → 4 * n ≤ length (at before q)) → (s : Shares) × (r ≡ Accepted s)
+      → ((q n : ℕ) → q < count → Number (get_or of q no_sheet) (WorldView (get_or of q no_sheet)) n → 4 * n ≤ length (at before q)) → (s : Shares) × (r ≡ Ok s)
   -- what each sheet then gets: its tests, its views and its records
-  pub accepted_shares : (s : Shares) → r ≡ Accepted s → SharedOut count sheets allowance s before after
+  pub accepted_shares : (s : Shares) → r ≡ Ok s → SharedOut count sheets allowance s before after
   -- where it is refused, "all buffers holding what they held"
-  pub refused_keeps : (number place position : ℕ) → r ≡ Refused number place position → after ≡ before
+  pub refused_keeps : (number place position : ℕ) → shared r ≡ denied number place position → after ≡ before
   -- the numbers are 14, 9, and those of the check, 1 to 7 and 15
-  pub refused_within : (number place position : ℕ) → r ≡ Refused number place position
+  pub refused_within : (number place position : ℕ) → shared r ≡ denied number place position
       → (position < 4) × ((number ≡ 14) ⊎ ((number ≡ 9) ⊎ (SheetRefusal 7 number × (place ≤ longest_sheet))))
   -- K7: "a two-section sheet gives 1"
   pub two-sections : (position : ℕ) (x : Sheet) (end : ℕ) → count ≤ 4 → position < count → ((q : ℕ) → q < position → Accepts (at sheets q))
-      → two_sections (at sheets position) ≡ field x end → r ≡ Refused 1 (length (at sheets position)) position
+      → two_sections (at sheets position) ≡ field x end → shared r ≡ denied 1 (length (at sheets position)) position
 
 -- ---- proofs
--- an answer that is a refusal
-is_refused : (r : Shared) {number place position : ℕ} → shared r ≡ denied number place position → r ≡ Refused number place position
-is_refused (Accepted s) e = unequal cc
-is_refused (Refused number place position) e = cc
-
 carried_denied : (c : meant.Shared meant.Shares) {number place position : ℕ} → carried c ≡ denied number place position → c ≡ denied number place position
 carried_denied (granted v) e = unequal cc
 carried_denied (denied number place position) e = cc
@@ -87,10 +80,10 @@ module _ (count : ℕ) (sheets : List (List ℕ)) (allowance : ℕ) (r : Shared)
   call = record { four-sheets = four-sheets; four_buffers = four_buffers; answers = answers; leaves = leaves }
 
   -- refused exactly when the definition has it
-  told : (number place position : ℕ) → (r ≡ Refused number place position) ↔ Denied count sheets allowance rooms number place position
+  told : (number place position : ℕ) → (shared r ≡ denied number place position) ↔ Denied count sheets allowance rooms number place position
   told number place position =
       let (there, back) = share_denied count sheets four-sheets allowance rooms number place position in
-      (λ e. there (carried_denied _ (sym answers ∙ ap shared e)), λ h. is_refused r (answers ∙ ap carried (back h)))
+      (λ e. there (carried_denied _ (sym answers ∙ e)), λ h. answers ∙ ap carried (back h))
 
   -- no sheet is refused with 9 or 14
   of_check : {number place position : ℕ} → SheetRefused count sheets number place position → SheetRefusal 7 number × (place ≤ longest_sheet)
@@ -101,7 +94,7 @@ module _ (count : ℕ) (sheets : List (List ℕ)) (allowance : ℕ) (r : Shared)
   not_over : {number place position : ℕ} → SheetRefused count sheets number place position → 7 < number → number < 15 → ⊥
   not_over d l h = ⊎_elim (λ few. omega arith) (λ e. omega arith) (of_check d).0
 
-  fourteen : (place position : ℕ) → (r ≡ Refused 14 place position) ↔ (((count ≡ 0) ⊎ (4 < count)) × (place ≡ 0) × (position ≡ 0))
+  fourteen : (place position : ℕ) → (shared r ≡ denied 14 place position) ↔ (((count ≡ 0) ⊎ (4 < count)) × (place ≡ 0) × (position ≡ 0))
   fourteen place position =
       let (there, back) = told 14 place position in (
         λ e. ⊎_elim (λ (o, _, p, i). (o, p, i))
@@ -111,7 +104,7 @@ module _ (count : ℕ) (sheets : List (List ℕ)) (allowance : ℕ) (r : Shared)
       )
 
   by_sheet : (number place position : ℕ) → (number ≡ 9 → ⊥) → (number ≡ 14 → ⊥)
-      → (r ≡ Refused number place position) ↔ ((0 < count) × (count ≤ 4) × (position < count) × ((q : ℕ) → q < position → Accepts (at sheets q))
+      → (shared r ≡ denied number place position) ↔ ((0 < count) × (count ≤ 4) × (position < count) × ((q : ℕ) → q < position → Accepts (at sheets q))
       × Refuses (at sheets position) number place)
   by_sheet number place position not-9 not-14 =
       let (there, back) = told number place position in (
@@ -131,7 +124,7 @@ module _ (count : ℕ) (sheets : List (List ℕ)) (allowance : ℕ) (r : Shared)
         )),
       )
 
-  nine : (place position : ℕ) → (r ≡ Refused 9 place position) ↔ ((0 < count) × (count ≤ 4)
+  nine : (place position : ℕ) → (shared r ≡ denied 9 place position) ↔ ((0 < count) × (count ≤ 4)
       × (of : List Setting) × (tests : ℕ → ℕ) × Reached count sheets allowance of tests
       × (position < count) × (place ≡ length (met of tests position)) × (length (at before position) < 4 * place)
       × ((q : ℕ) → q < position → 4 * length (met of tests q) ≤ length (at before q)))
@@ -171,7 +164,7 @@ module _ (count : ℕ) (sheets : List (List ℕ)) (allowance : ℕ) (r : Shared)
 
   -- all sheets accepted, and room for what they reach
   fitting : (of : List Setting) → 0 < count → count ≤ 4 → AllRead count sheets of → ((q : ℕ) → q < count → 4 * length (reached allowance of q) ≤ length (at before q))
-      → (s : Shares) × (r ≡ Accepted s)
+      → (s : Shares) × (r ≡ Ok s)
   fitting of some few read f =
       let d = (share_granted count sheets four-sheets allowance rooms (shares_of allowance of)).1
       (of, record { some = (some, few); read = read; fit = λ q h. omega (arith, f q h, room before q) }, refl) in
@@ -195,7 +188,7 @@ module _ (count : ℕ) (sheets : List (List ℕ)) (allowance : ℕ) (r : Shared)
         let n = (is_tally u).views_are in
         omega (arith, f q _ h n, listing-many u n, (met_few u (turns_at (paid allowance of) q)).0));
     accepted_shares = λ s e. shared-out (subst (λ r. AsShared count sheets allowance r before after) e call);
-    refused_keeps = λ number place position e. leaves ∙ ap (λ c. lent_after c before) (carried_denied (share_call count sheets allowance rooms) (sym answers ∙ ap shared e));
+    refused_keeps = λ number place position e. leaves ∙ ap (λ c. lent_after c before) (carried_denied (share_call count sheets allowance rooms) (sym answers ∙ e));
     refused_within = λ number place position e.
         ⊎_elim (λ (_, n, _, i). (omega arith, inl n))
         (λ (i, why).

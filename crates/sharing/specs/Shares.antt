@@ -16,8 +16,7 @@ use Rattle.allowance.specs.RecordsMet.{RecordsMet, records_met}
 use Rattle.allowance.specs.Shares.{among_tests, tests_number, none_remains, finished_exactly, finished_many, finished_whole, met_begins}
 use Rattle.sharing.specs.declared.result.Share.{Share}
 use Rattle.sharing.specs.declared.result.Shares.{Shares}
-use Rattle.sharing.specs.declared.result.Shared.{Shared}
-use Rattle.sharing.specs.Answers.{shared}
+use Rattle.sharing.specs.Answers.{Shared, shared}
 
 -- the sheet, or the buffer, at a position from 0
 abbrev pub at : List (List ℕ) → ℕ → List ℕ

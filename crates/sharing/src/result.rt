@@ -1,7 +1,8 @@
 // What a shared call answers.
+use answers::Refusal;
 
 // Of a sheet: whether no guess that would be tested is left, its tests, and the views that it met in them.
-#[derive(Clone, Copy)]
+#[derive(Clone, Copy, Debug, PartialEq, Eq)]
 pub struct Share {
     pub finished: bool,
     pub tests: usize,
@@ -9,7 +10,7 @@ pub struct Share {
 }
 
 // The tests of all sheets, and the share of each. One that is not there is finished, with no tests and no views.
-#[derive(Clone, Copy)]
+#[derive(Clone, Copy, Debug, PartialEq, Eq)]
 pub struct Shares {
     pub tests: usize,
     pub first: Share,
@@ -18,13 +19,9 @@ pub struct Shares {
     pub fourth: Share,
 }
 
-// The shares; or a refusal by its number, its place (for 9: the number of views reached) and the sheet's position from 0.
-#[derive(Clone, Copy)]
-pub enum Shared {
-    Accepted(Shares),
-    Refused {
-        number: u8,
-        place: usize,
-        position: usize,
-    },
+// A refusal (where too few words are lent, its place is the number of views reached), and the sheet's position from 0.
+#[derive(Clone, Copy, Debug, PartialEq, Eq)]
+pub struct SharedRefusal {
+    pub refusal: Refusal,
+    pub position: usize,
 }

@@ -6,12 +6,13 @@ ghost use Rattle.records.specs.Records.{views_in};
 ghost use Rattle.listing.specs.Pauses.{fresh};
 ghost use Rattle.sharing.specs.Refusals.{FirstShort};
 
-use super::sheets::Refusal;
+use super::result::SharedRefusal;
+use answers::{Reason, Refusal};
 use listing::paused::Paused;
 use records::write_records;
 
 // The first of the n sheets whose records don't fit into the words lent.
-pub fn first_short(n: usize, states: [Paused; 4], rooms: [usize; 4]) -> Refusal
+pub fn first_short(n: usize, states: [Paused; 4], rooms: [usize; 4]) -> Option<SharedRefusal>
     requires { (n ≤ 4) × (length states ≡ 4) × (length rooms ≡ 4) × ((q : ℕ) → q < n → (get_or states q fresh).tally.views ≤ 4096) }
     ensures { FirstShort states rooms n result }
 {
@@ -20,14 +21,16 @@ pub fn first_short(n: usize, states: [Paused; 4], rooms: [usize; 4]) -> Refusal
         let tally = paused.tally;
         let views = tally.views;
         if rooms[p] < 4 * views {
-            return Refusal::At {
-                number: 9,
-                place: views,
+            return Some(SharedRefusal {
+                refusal: Refusal {
+                    reason: Reason::ShortBuffer,
+                    place: views,
+                },
                 position: p,
-            };
+            });
         }
     }
-    Refusal::None
+    None
 }
 
 // The records of sheet p to its own buffer, where it is one of the n.

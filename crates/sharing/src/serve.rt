@@ -6,9 +6,8 @@ ghost use Rattle.sharing.specs.Refusals.{FitTo};
 ghost use Rattle.sharing.specs.Answers.{numbers_from, carried_by, shared};
 ghost use Rattle.sharing.specs.Handed.{four, numbers_at, carried_in, handed_at};
 
-use super::result::{Share, Shared, Shares};
+use super::result::{Share, SharedRefusal, Shares};
 use super::rooms::{first_short, hand};
-use super::sheets::Refusal;
 use super::turns::{rounds, tests_made};
 use listing::paused::Paused;
 use order::guesses;
@@ -81,7 +80,7 @@ pub fn serve(
     ob: &mut [u16],
     oc: &mut [u16],
     od: &mut [u16],
-) -> Shared
+) -> Result<Shares, SharedRefusal>
     requires { (n ≤ 4) × (length sources ≡ 4) × (length words.now ≡ 4) × AllRead sources words.now n }
     ensures result_value { shared result ≡ carried (shares_into (map length (four oa.old ob.old oc.old od.old)) (shares_of allowance (settings_in sources words.now n))) }
     ensures od_after { four oa.new ob.new oc.new od.new ≡ lent_after (shares_into (map length (four oa.old ob.old oc.old od.old)) (shares_of allowance (settings_in sources words.now n))) (four oa.old ob.old oc.old od.old) }
@@ -99,18 +98,9 @@ pub fn serve(
         &mut records,
     );
     let rooms = [oa.len(), ob.len(), oc.len(), od.len()];
-    let refusal = first_short(n, states, rooms);
-    match refusal {
-        Refusal::At {
-            number,
-            place,
-            position,
-        } => Shared::Refused {
-            number,
-            place,
-            position,
-        },
-        Refusal::None => {
+    match first_short(n, states, rooms) {
+        Some(refused) => Err(refused),
+        None => {
             hand_all(
                 n,
                 states,
@@ -120,7 +110,7 @@ pub fn serve(
                 &mut oc[..],
                 &mut od[..],
             );
-            Shared::Accepted(shares_of(states))
+            Ok(shares_of(states))
         }
     }
 }

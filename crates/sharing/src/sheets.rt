@@ -3,7 +3,8 @@ ghost use Rattle.std.specs.Prelude.{◌≡◌, [], ◌∷◌, ◌<◌, ◌≤◌
 ghost use Rattle.sharing.specs.Held.{ReadTo};
 ghost use Rattle.sharing.specs.Refusals.{FirstRefused};
 
-use answers::Reason;
+use super::result::SharedRefusal;
+use answers::{Reason, Refusal};
 use source::{Source, of_day};
 
 // Sheet p of four.
@@ -36,7 +37,7 @@ pub fn read_sheets<'a>(
     ensures words_len_unchanged { length words.new ≡ length words.old }
     ensures result_len { (length result ≡ 4) × ReadTo result words.new (a.now ∷ b.now ∷ c.now ∷ d.now ∷ []) n }
 {
-    let unread = Err(answers::Refusal {
+    let unread = Err(Refusal {
         reason: Reason::BadCount,
         place: 0,
     });
@@ -49,31 +50,19 @@ pub fn read_sheets<'a>(
     sources
 }
 
-// A refusal with the sheet's position, or none.
-#[derive(Clone, Copy)]
-pub enum Refusal {
-    None,
-    At {
-        number: u8,
-        place: usize,
-        position: usize,
-    },
-}
-
 // The first of the n sheets that is refused.
-pub fn first_refused(n: usize, sources: [Source; 4]) -> Refusal
+pub fn first_refused(n: usize, sources: [Source; 4]) -> Option<SharedRefusal>
     requires { (n ≤ 4) × (length sources ≡ 4) }
     ensures { FirstRefused sources n result }
 {
     for p in 0..n {
         let source = sources[p];
         if let Err(refusal) = source {
-            return Refusal::At {
-                number: refusal.reason.number(),
-                place: refusal.place,
+            return Some(SharedRefusal {
+                refusal,
                 position: p,
-            };
+            });
         }
     }
-    Refusal::None
+    None
 }

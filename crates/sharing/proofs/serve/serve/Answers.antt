@@ -7,14 +7,14 @@ use Rattle.sharing.specs.Handed.{four}
 use Rattle.sharing.proofs.Handing.{carried_is, handed_is, all_fit, one_short}
 use Rattle.sharing.proofs.serve.serve.Goals as goal
 
-pub returns-in-At : goal.returns-in-At
-returns-in-At c =
+pub returns-in-Some : goal.returns-in-Some
+returns-in-Some c =
     let a = c.args in
     let run = c.rounds-states.ensures.result_len in
     let states = c.rounds-states.result in
     let records = c.rounds-states.new.records in
     let rooms = map length (four a.oa.now a.ob.now a.oc.now a.od.now) in
-    let short = c.in-At.ensures in
+    let short = c.in-Some.ensures in
     let is = one_short a.sources a.words.now a.n a.allowance states records c.requires.0 run.1 run.2 run.3 rooms short in
     record {
       result_value = sym (ap carried is);
