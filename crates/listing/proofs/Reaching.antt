@@ -6,10 +6,10 @@ use mathlib.Core.List.{List, [], ◌∷◌}
 use native.Mathlib.Omega.{arith}
 use borrow.Author.Tests.{lt-ltb}
 use lib.Dec.{ltb}
-use lib.ListN.{length, get_or, take, drop}
+use lib.ListN.{length, get_or, drop}
 use lib.Pow.{pow_mono}
 use lib.Seq.{drop-cons, drop-length}
-use Rattle.std.specs.Prelude.{None, is_some}
+use Rattle.std.specs.Prelude.{is_some}
 use Rattle.sets.specs.Decides.{is_false, dec_self}
 use Rattle.sets.specs.Lists.{keep, keep_cons}
 use Rattle.semantics.specs.Definitions.Setting.{k}
@@ -22,7 +22,6 @@ use Rattle.semantics.specs.Theorems.Tests.{StandsAt}
 use Rattle.semantics.proofs.Theorems.Tests.{stands_end, stands_waiting}
 use Rattle.guess.specs.declared.outline.Outline.{Outline}
 use Rattle.guess.specs.Programs.{setting_in, Outlines}
-use Rattle.answers.specs.declared.tally.Tally.{Tally}
 use Rattle.listing.specs.declared.paused.Paused.{Paused}
 use Rattle.records.specs.Records.{views_in, LargerFirst}
 use Rattle.records.specs.Outcomes.{tally_from}
@@ -119,8 +118,3 @@ along_start x words order program records = record {
   walked = along_first (setting_in x words) x.negations order records;
   waiting = λ rules d. absurd (true≢false (sym (ap is_some d)));
 }
-
--- past the last entry
-pub along_end : {x : Outline} {words order program records : List ℕ} {t : Tally} → walked_in t records ≡ walk (setting_in x words) (members_below x.negations (take (length order) order))
-    → Along x words order (record { at = length order; tally = t; waiting = None }) program records
-along_end e = record { within = omega arith; walked = e; waiting = λ rules d. absurd (true≢false (sym (ap is_some d))) }

@@ -3,10 +3,9 @@ use Prim.Native.Nat.{ℕ, suc, ◌+◌, ◌*◌, ◌-◌, ◌≤◌, ◌<◌}
 use mathlib.Core.Path.{◌≡◌, refl, sym, ap, ap₂, subst, ◌∙◌}
 use mathlib.Core.Bool.{Bool, true, false, true≢false}
 use mathlib.Core.List.{List, [], ◌∷◌, ◌++◌, append-nil, append_assoc}
-use native.Mathlib.Nat.{not-suc-le-zero}
 use native.Mathlib.Numerals.{add-one}
 use native.Mathlib.Omega.{arith}
-use lib.ListN.{length, get_or, set, take, drop, length-append, length-drop, get_or-append, drop_of_length-le}
+use lib.ListN.{length, get_or, take, drop, length-append, length-drop, get_or-append, drop_of_length-le}
 use lib.Seq.{length-take-le, take_all, take_at, drop-append-add, get_or-append-add, get_or-take, drop-drop}
 use Rattle.std.specs.Bool.{MatchBool}
 use Rattle.std.specs.List.{AllWithin, HoldsAt, range_with_len}
@@ -17,14 +16,6 @@ use Rattle.sets.specs.Sets.{◌⊂?◌}
 use Rattle.semantics.specs.Definitions.Returned.{written}
 use Rattle.semantics.specs.Definitions.Listing.{View, record_of, words}
 use Rattle.records.specs.Records.{view_in, views_in}
-
--- ---- four words at the front
-pub four_set : (part : List ℕ) (a b c d : ℕ) → 4 ≤ length part → set (set (set (set part 0 a) 1 b) 2 c) 3 d ≡ written (a ∷ b ∷ c ∷ d ∷ []) part
-four_set [] a b c d h = absurd (not-suc-le-zero h)
-four_set (w ∷ []) a b c d h = absurd (omega arith)
-four_set (w ∷ x ∷ []) a b c d h = absurd (omega arith)
-four_set (w ∷ x ∷ y ∷ []) a b c d h = absurd (omega arith)
-four_set (w ∷ x ∷ y ∷ z ∷ part) a b c d h = refl
 
 -- ---- a buffer, once the words ws are written to the front of its part from a place on
 abbrev pub placed : (at : ℕ) (ws buffer : List ℕ) → List ℕ
