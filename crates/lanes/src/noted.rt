@@ -33,10 +33,8 @@ pub fn note_lanes(table: &mut [Entry], w: usize, lanes: u64, i: u16)
         × ((b : ℕ) → b < 64 → b ∈ lanes → (entry_at table.old (64 * w + b)).sets < 65535) }
     ensures { Noted (InWord w lanes) i table.old table.new }
 {
-    let mut rest = lanes;
-    while rest > 0 {
-        table[64 * w + rest.first()].take_in(i);
-        rest &= rest - 1;
+    for b in lanes.members() {
+        table[64 * w + b].take_in(i);
     }
 }
 

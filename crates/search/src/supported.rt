@@ -24,10 +24,8 @@ fn supports(rule: Rule, i: u16) -> u16
 fn add(by: &mut [u64; 16], atoms: u16, lanes: u64)
     ensures { Added atoms lanes by.old by.new }
 {
-    let mut rest = atoms;
-    while rest > 0 {
-        by[rest.first()] |= lanes;
-        rest &= rest - 1;
+    for a in atoms.members() {
+        by[a] |= lanes;
     }
 }
 
@@ -52,10 +50,8 @@ pub fn supported(rules: &[Rule], on: &[u64], i: u16, lanes: u64) -> u64
 {
     let by = support(rules, on, i);
     let mut left = lanes;
-    let mut rest = i;
-    while rest > 0 {
-        left &= by[rest.first()];
-        rest &= rest - 1;
+    for a in i.members() {
+        left &= by[a];
     }
     left
 }

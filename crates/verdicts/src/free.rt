@@ -18,8 +18,7 @@ pub fn free_guesses(words: &[u16], x: Outline, free: &mut [u64], active: &mut [u
     let patterns = Patterns::new();
     let numbers = number(x);
     for w in 0..free.len() {
-        let lanes = free_lanes(&patterns, words, x, &numbers, w as u16);
-        free[w] = lanes;
-        active[w] = lanes;
+        free[w] = free_lanes(&patterns, words, x, &numbers, w as u16);
     }
+    active.copy_from_slice(&free[..]);
 }

@@ -3,8 +3,5 @@ use Rattle.sets.specs.Sets.{◌⊆◌, ◌∖◌}
 use Rattle.search.specs.Supported.{Added}
 use Rattle.search.proofs.supported.add.Given as goal
 
-abbrev pub invariant-loop-rest : goal.invariant-loop-rest
-invariant-loop-rest l = (l.rest ⊆ l.atoms) × Added (l.atoms ∖ l.rest) l.lanes l.initial.by l.by
-
-abbrev pub decreases-loop-rest : goal.decreases-loop-rest
-decreases-loop-rest l = l.rest
+abbrev pub invariant-loop-a : goal.invariant-loop-a
+invariant-loop-a l = (l.a-iterator.rest ⊆ l.atoms) × Added (l.atoms ∖ l.a-iterator.rest) l.lanes l.initial.by l.by
