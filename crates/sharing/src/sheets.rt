@@ -7,7 +7,7 @@ use super::result::SharedRefusal;
 use answers::{Reason, Refusal};
 use source::{Source, of_day};
 
-// Sheet p of four.
+// Sheet p of the four, which the call sold takes one by one.
 fn pick<'a>(p: usize, a: &'a [u8], b: &'a [u8], c: &'a [u8], d: &'a [u8]) -> &'a [u8]
     requires { p < 4 }
     ensures { result.now ≡ get_or (a.now ∷ b.now ∷ c.now ∷ d.now ∷ []) p [] }

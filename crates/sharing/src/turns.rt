@@ -145,7 +145,7 @@ fn some_waits(n: usize, states: [Paused; 4]) -> bool
     false
 }
 
-// All tests made.
+// All tests made: four terms, no longer than a sum over the states and its bound.
 pub fn tests_made(states: [Paused; 4]) -> usize
     requires { (length states ≡ 4) × FewAll states }
     ensures { result ≡ spent_in states }

@@ -3,6 +3,8 @@ use Rattle.std.specs.Prelude.{ℕ, ◌≡◌, List, [], ◌∷◌, ◌++◌, tak
 use Rattle.semantics.specs.Definitions.Check.{said}
 use Rattle.semantics.specs.Definitions.Returned.{accepted}
 use Rattle.semantics.specs.Definitions.Program.{bytes, decimal}
+use Rattle.semantics.specs.Definitions.Listing.{Tally}
+use Rattle.answers.specs.declared.tally.Tally.{Tally as Counts}
 use Rattle.text.specs.Names.{atoms_in, member_fields}
 
 -- the line stands in the first r bytes, and the rest of the buffer is as it was before
@@ -22,3 +24,8 @@ view_read s guess sets known = bytes "view" ++ 32 ∷ decimal guess ++ 32 ∷ de
 -- `set` and its names
 abbrev pub set_read : List ℕ → (set : ℕ) → List ℕ
 set_read s set = bytes "set" ++ member_fields s set (atoms_in s) ++ 10 ∷ []
+
+-- ---- the six counts
+-- the tally that the counts of the code stand for
+abbrev pub tally_from : Counts → Tally
+tally_from t = record { views = t.views; covered = t.covered; ruled = t.ruled; tested = t.tested; empty = t.empty; other = t.other }

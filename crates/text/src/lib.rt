@@ -8,11 +8,12 @@ mod numbers;
 
 ghost use Rattle.std.specs.Prelude.{◌≤◌, length};
 ghost use Rattle.semantics.specs.Definitions.Check.{numbers};
-ghost use Rattle.semantics.specs.Definitions.Listing.{tallied};
 ghost use Rattle.semantics.specs.Definitions.Program.{sheet_line, view_line, set_line, tally_line, refused_line};
+ghost use Rattle.answers.specs.Refusals.{number_of};
 ghost use Rattle.text.specs.Appended.{Counts};
-ghost use Rattle.text.specs.Lines.{Holds, HoldsFor, view_read, set_read};
+ghost use Rattle.text.specs.Lines.{Holds, HoldsFor, view_read, set_read, tally_from};
 
+use answers::{Refusal, Tally};
 pub use bytes::put;
 use names::put_names;
 pub use numbers::{put_decimal, put_field};
@@ -57,37 +58,29 @@ pub fn set_line(sheet: &[u8], set: u16, out: &mut [u8]) -> usize
 }
 
 // `tally`, views, covered, ruled, tested, empty, other.
-pub fn tally_line(
-    views: usize,
-    covered: usize,
-    ruled: usize,
-    tested: usize,
-    empty: usize,
-    other: usize,
-    out: &mut [u8],
-) -> usize
+pub fn tally_line(tally: Tally, out: &mut [u8]) -> usize
     requires { 256 ≤ length out.old }
     ensures counts { Counts result out.new }
-    ensures holds { Holds (tally_line (tallied views covered ruled tested empty other)) out.old out.new result }
+    ensures holds { Holds (tally_line (tally_from tally)) out.old out.new result }
 {
     let a = put(b"tally", 0, out);
-    let b = put_field(views, a, out);
-    let c = put_field(covered, b, out);
-    let d = put_field(ruled, c, out);
-    let e = put_field(tested, d, out);
-    let f = put_field(empty, e, out);
-    let g = put_field(other, f, out);
+    let b = put_field(tally.views, a, out);
+    let c = put_field(tally.covered, b, out);
+    let d = put_field(tally.ruled, c, out);
+    let e = put_field(tally.tested, d, out);
+    let f = put_field(tally.empty, e, out);
+    let g = put_field(tally.other, f, out);
     put(b"\n", g, out)
 }
 
 // `refused`, number, place.
-pub fn refused_line(number: u8, place: usize, out: &mut [u8]) -> usize
+pub fn refused_line(refusal: Refusal, out: &mut [u8]) -> usize
     requires { 256 ≤ length out.old }
     ensures counts { Counts result out.new }
-    ensures holds { Holds (refused_line number place) out.old out.new result }
+    ensures holds { Holds (refused_line (number_of refusal.reason) refusal.place) out.old out.new result }
 {
     let a = put(b"refused", 0, out);
-    let b = put_field(number as usize, a, out);
-    let c = put_field(place, b, out);
+    let b = put_field(refusal.reason.number() as usize, a, out);
+    let c = put_field(refusal.place, b, out);
     put(b"\n", c, out)
 }

@@ -5,7 +5,7 @@ ghost use Rattle.text.specs.Appended.{Appended};
 
 use super::bytes::put;
 
-// The digits of n, the last one last.
+// The digits of n, the last one last; written by hand, since the lines are promised digit by digit.
 fn digits(n: usize, at: usize, out: &mut [u8]) -> usize
     requires { at + length (decimalOf n) ≤ length out.old }
     ensures { Appended at (decimalOf n) out.old out.new result }

@@ -9,10 +9,11 @@ ghost use Rattle.semantics.specs.Definitions.Returned.{accepted};
 ghost use Rattle.semantics.specs.Theorems.Calls.{GuessOf};
 ghost use Rattle.semantics.specs.Theorems.Records.{RecordsOf};
 
-use engine::{belief_sets, check, list};
+use engine::{Refusal, Tally, belief_sets, check, list};
 use std::io;
 use std::io::{Read, Stdin, Stdout, Write};
 
+// Each of the five prints one line. A closure for the line is no plainer: each call would have to state what it counts and writes.
 fn print_sheet(atoms: usize, rules: usize, negations: usize, mut out: Stdout) -> io::Result<()> {
     let mut line = [0u8; 256];
     let n = text::sheet_line(atoms, rules, negations, &mut line);
@@ -31,32 +32,21 @@ fn print_set(sheet: &[u8], set: u16, mut out: Stdout) -> io::Result<()> {
     out.write_all(&line[..n])
 }
 
-fn print_tally(
-    views: usize,
-    covered: usize,
-    ruled: usize,
-    tested: usize,
-    empty: usize,
-    other: usize,
-    mut out: Stdout,
-) -> io::Result<()> {
+fn print_tally(tally: Tally, mut out: Stdout) -> io::Result<()> {
     let mut line = [0u8; 256];
-    let n = text::tally_line(views, covered, ruled, tested, empty, other, &mut line);
+    let n = text::tally_line(tally, &mut line);
     out.write_all(&line[..n])
 }
 
-fn print_refused(number: u8, place: usize, mut out: Stdout) -> io::Result<()> {
+fn print_refused(refusal: Refusal, mut out: Stdout) -> io::Result<()> {
     let mut line = [0u8; 256];
-    let n = text::refused_line(number, place, &mut line);
+    let n = text::refused_line(refusal, &mut line);
     out.write_all(&line[..n])
 }
 
-// The first n sets.
-fn each_set(sheet: &[u8], sets: &[u16], n: usize, out: Stdout) -> io::Result<()>
-    requires { n ≤ length sets.now }
-{
-    for i in 0..n {
-        print_set(sheet, sets[i], out)?;
+fn each_set(sheet: &[u8], sets: &[u16], out: Stdout) -> io::Result<()> {
+    for set in sets {
+        print_set(sheet, *set, out)?;
     }
     Ok(())
 }
@@ -67,7 +57,7 @@ fn sets_of(sheet: &[u8], guess: u16, out: Stdout) -> io::Result<()>
 {
     let mut sets = [0u16; 32768];
     match belief_sets(sheet, 0, 0, guess as u32, &mut sets) {
-        Ok(count) => each_set(sheet, &sets, count, out),
+        Ok(count) => each_set(sheet, &sets[..count], out),
         Err(_) => unreachable!(),
     }
 }
@@ -99,9 +89,9 @@ fn listing(sheet: &[u8], out: Stdout) -> io::Result<()>
 {
     let mut records = [0u16; 16384];
     match list(sheet, 0, 0, &mut records) {
-        Ok(t) => {
-            each_view(sheet, &records, t.views, out)?;
-            print_tally(t.views, t.covered, t.ruled, t.tested, t.empty, t.other, out)
+        Ok(tally) => {
+            each_view(sheet, &records, tally.views, out)?;
+            print_tally(tally, out)
         }
         Err(_) => unreachable!(),
     }
@@ -113,7 +103,7 @@ fn answer(sheet: &[u8], out: Stdout) -> io::Result<()> {
             print_sheet(x.atoms, x.rules, x.negations, out)?;
             listing(sheet, out)
         }
-        Err(refusal) => print_refused(refusal.reason.number(), refusal.place, out),
+        Err(refusal) => print_refused(refusal, out),
     }
 }
 
