@@ -21,7 +21,7 @@ pub fn models(patterns: &Patterns, rules: &[Rule], w: u16, lanes: u64) -> u64
     left
 }
 
-// For each rule the lanes, of these, of word w in which it is on.
+// For each rule the lanes, of these, of word w in which it is on. They stand beside the rules, which are lent for reading and serve word after word.
 pub fn switch_on(patterns: &Patterns, rules: &[Rule], w: u16, lanes: u64, on: &mut [u64])
     requires { length rules.now ≤ length on.old }
     ensures { LanesOn rules.now w lanes (length rules.now) on.new }
