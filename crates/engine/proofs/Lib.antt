@@ -2,4 +2,3 @@
 pub mod Laws
 pub mod Minutes
 pub mod Answered
-mod Front

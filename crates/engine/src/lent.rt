@@ -7,7 +7,5 @@ pub fn write(words: &[u16], n: usize, out: &mut [u16])
     requires { (n ≤ length words.now) × (n ≤ length out.old) }
     ensures { out.new ≡ written (take n words.now) out.old }
 {
-    for i in 0..n {
-        out[i] = words[i];
-    }
+    out[..n].copy_from_slice(&words[..n]);
 }
