@@ -12,12 +12,13 @@ use Rattle.sets.specs.Members.{∈-∪, ∈_cond, ∈-set_of, ∈_ext}
 use Rattle.semantics.specs.Definitions.Calendar.{Entry, holds, entries_of, rules_in_force}
 use Rattle.semantics.specs.Theorems.InForce.{AllProper}
 use Rattle.semantics.proofs.Theorems.InForce.{among-entries_of, dec_in_force, ∈-rules_in_force}
+use Rattle.calendar.specs.declared.hours.Entry.{Entry as Held}
 use Rattle.calendar.specs.Entries.{Numbered, Entries}
 use Rattle.calendar.specs.Force.{unrestricted, with_rule, held_from}
 
 -- the numbers of the entries' rules are small
-pub numbered : {rules : ℕ} {words : List ℕ} {n : ℕ} → Entries rules words n → Numbered words n
-numbered p = record { stand = p.stand; numbers = λ e m. omega (arith, (p.all_proper e m).on_sheet, p.few_rules) }
+pub numbered : {rules : ℕ} {entries : List Held} → Entries rules entries → Numbered entries
+numbered p = record { numbers = λ e m. omega (arith, (p.all_proper e m).on_sheet, p.few_rules) }
 
 -- some entry has the rule
 abbrev pub Restricted : List Entry → (rule : ℕ) → Type 0

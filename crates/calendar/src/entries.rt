@@ -1,19 +1,18 @@
 // The bytes of a calendar, step by step.
-ghost use Rattle.std.specs.Prelude.{◌≡◌, [], ◌+◌, ◌*◌, ◌≤◌, length, take};
-ghost use Rattle.semantics.specs.Definitions.Reading.{times};
+ghost use Rattle.std.specs.Prelude.{◌≡◌, [], ◌+◌, ◌≤◌, length, take, IfOk};
+ghost use Rattle.semantics.specs.Definitions.Reading.{field, times};
 ghost use Rattle.semantics.specs.Definitions.Sheet.{count_at};
-ghost use Rattle.semantics.specs.Definitions.Calendar.{most_entries, proper as isProper, entry_at, calendar_of};
-ghost use Rattle.calendar.specs.Entries.{entry_in, entry_of};
-ghost use Rattle.calendar.specs.Steps.{step_of, Entered, AllEntered, ReadInto};
+ghost use Rattle.semantics.specs.Definitions.Calendar.{most_entries, proper as isProper, entry_at as entryAt, calendar_of};
+ghost use Rattle.calendar.specs.Entries.{entry_of, entries_in};
+ghost use Rattle.calendar.specs.Steps.{reading_by};
 
+use super::hours::Entry;
 use answers::{Reason, Refusal};
 use sheet::{present, word};
 
-// The steps answer the number that they read, or the next place.
-
 // The number of entries: one byte, at most 64.
 fn count(c: &[u8]) -> Result<usize, Refusal>
-    ensures { result ≡ step_of (λ n _. n) (count_at c.now most_entries 0) }
+    ensures { count_at c.now most_entries 0 ≡ reading_by (λ n. field n 1) result }
 {
     if present(c, 0, 1) {
         let n = c[0] as usize;
@@ -32,47 +31,33 @@ fn count(c: &[u8]) -> Result<usize, Refusal>
 }
 
 // Is it a rule of the sheet, and are these two minutes of the week that differ?
-fn proper(rules: usize, rule: u16, first: u16, end: u16) -> bool
-    ensures { result ≡ isProper rules (entry_of rule first end) }
+fn proper(rules: usize, e: Entry) -> bool
+    ensures { result ≡ isProper rules (entry_of e) }
 {
-    if rules <= rule as usize {
+    if rules <= e.rule as usize {
         return false;
     }
-    if 10079 < first {
+    if 10079 < e.first {
         return false;
     }
-    if 10079 < end {
+    if 10079 < e.end {
         return false;
     }
-    first != end
+    e.first != e.end
 }
 
-// Writes entry i as three words.
-fn store(out: &mut [u16], i: usize, rule: u16, first: u16, end: u16)
-    requires { 3 * i + 3 ≤ length out.old }
-    ensures out_len_unchanged { length out.new ≡ length out.old }
-    ensures out_unchanged { take (3 * i) out.new ≡ take (3 * i) out.old }
-    ensures i_after { entry_in out.new i ≡ entry_of rule first end }
-{
-    out[3 * i] = rule;
-    out[3 * i + 1] = first;
-    out[3 * i + 2] = end;
-}
-
-// Entry i, whose five bytes begin at a place: all of them are there before it is judged.
-fn entry(c: &[u8], rules: usize, at: usize, out: &mut [u16], i: usize) -> Result<usize, Refusal>
-    requires { 3 * i + 3 ≤ length out.old }
-    ensures out_len_unchanged { length out.new ≡ length out.old }
-    ensures out_unchanged { take (3 * i) out.new ≡ take (3 * i) out.old }
-    ensures entered { Entered (entry_at c.now rules at) result out.new i }
+// The entry whose five bytes begin at a place: all of them are there before it is judged.
+fn entry_at(c: &[u8], rules: usize, at: usize) -> Result<Entry, Refusal>
+    ensures { entryAt c.now rules at ≡ reading_by (λ e. field (entry_of e) (at + 5)) result }
 {
     if present(c, at, 5) {
-        let rule = c[at] as u16;
-        let first = word(c, at + 1);
-        let end = word(c, at + 3);
-        if proper(rules, rule, first, end) {
-            store(&mut out[..], i, rule, first, end);
-            return Ok(at + 5);
+        let e = Entry {
+            rule: c[at] as u16,
+            first: word(c, at + 1),
+            end: word(c, at + 3),
+        };
+        if proper(rules, e) {
+            return Ok(e);
         }
         return Err(Refusal {
             reason: Reason::BadEntry,
@@ -86,23 +71,25 @@ fn entry(c: &[u8], rules: usize, at: usize, out: &mut [u16], i: usize) -> Result
 }
 
 // So many entries, after the count; answers the place after them.
-fn entries(c: &[u8], rules: usize, n: usize, out: &mut [u16]) -> Result<usize, Refusal>
-    requires { 3 * n ≤ length out.old }
+fn entries(c: &[u8], rules: usize, n: usize, out: &mut [Entry]) -> Result<usize, Refusal>
+    requires { (n ≤ length out.old) × (n ≤ most_entries) }
     ensures out_len_unchanged { length out.new ≡ length out.old }
-    ensures all_entered { AllEntered (times n [] (λ _. entry_at c.now rules) 1) result n out.new }
+    ensures value { times n [] (λ _. entryAt c.now rules) 1 ≡ reading_by (λ end. field (entries_in (take n out.new)) end) result }
 {
     let mut at = 1;
     for i in 0..n {
-        at = entry(c, rules, at, &mut out[..], i)?;
+        out[i] = entry_at(c, rules, at)?;
+        at += 5;
     }
     Ok(at)
 }
 
-// The calendar of a sheet with so many rules: answers the number of its entries, which then stand in the words.
-pub fn read(c: &[u8], rules: usize, out: &mut [u16]) -> Result<usize, Refusal>
-    requires { 3 * most_entries ≤ length out.old }
+// The calendar of a sheet with so many rules: answers the number of its entries, which are then the first ones.
+pub fn read(c: &[u8], rules: usize, out: &mut [Entry]) -> Result<usize, Refusal>
+    requires { most_entries ≤ length out.old }
     ensures out_len_unchanged { length out.new ≡ length out.old }
-    ensures read_into { ReadInto (calendar_of c.now rules) result out.new }
+    ensures upper_bound { IfOk result (λ n. n ≤ most_entries) }
+    ensures value { calendar_of c.now rules ≡ reading_by (λ n. field (entries_in (take n out.new)) (length c.now)) result }
 {
     let n = count(c)?;
     let end = entries(c, rules, n, &mut out[..])?;

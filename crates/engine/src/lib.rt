@@ -22,7 +22,7 @@ ghost use Rattle.engine.specs.Days.{VerdictDay, SetsDay, ListingDay, QueryDay};
 ghost use Rattle.engine.specs.Opposites.{SetsOpposites};
 
 pub use answers::{Reason, Refusal, Tally};
-use calendar::minutes_of_change;
+use calendar::{Entry, minutes_of_change};
 use in_order::{list_from, list_in_order};
 use lent::write;
 pub use sharing::{Share, SharedRefusal, Shares, share};
@@ -143,10 +143,15 @@ pub fn changes(sheet: &[u8], calendar: &[u8], out: &mut [u16]) -> Result<usize, 
     ensures out_after { out.new ≡ afterwards (λ w. w) (changes_call sheet.now calendar.now (length out.old)) out.old }
     ensures changes_demand { ChangesDemand sheet.now calendar.now result out.old out.new }
 {
-    let mut entries = [0u16; 192];
+    let none = Entry {
+        rule: 0,
+        first: 0,
+        end: 0,
+    };
+    let mut entries = [none; 64];
     let (x, n) = with_calendar(sheet, calendar, &mut entries[..])?;
     let mut minutes = [0u16; 10080];
-    let count = minutes_of_change(&entries[..], n, x.rules, &mut minutes[..]);
+    let count = minutes_of_change(&entries[..n], x.rules, &mut minutes[..]);
     if out.len() < count {
         return Err(Refusal {
             reason: Reason::ShortBuffer,

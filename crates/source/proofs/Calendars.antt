@@ -4,7 +4,7 @@ use mathlib.Core.Path.{◌≡◌, refl, sym, ap, ap₂, ◌∙◌, subst}
 use mathlib.Core.List.{List, [], ◌++◌, map}
 use mathlib.Core.Logic.{inl, inr}
 use native.Mathlib.Omega.{arith}
-use lib.ListN.{length, get_or}
+use lib.ListN.{length, get_or, take}
 use Rattle.sets.specs.Decides.{dec_one, dec_iff, dec_self}
 use Rattle.sets.specs.Lists.{all_append, up_to, among-up_to, map_keep_same}
 use Rattle.sets.specs.Sets.{◌∈?◌, ∅, Below, AllBelow}
@@ -28,11 +28,13 @@ use Rattle.semantics.proofs.Theorems.CalendarCalls.{minute_given, minute_refused
 use Rattle.sheet.specs.declared.Contents.{Contents}
 use Rattle.sheet.specs.Opened.{contents, opened_of, opened_as, opened_refused, Holds}
 use Rattle.opened.specs.Loaded.{LoadsOnly}
-use Rattle.calendar.specs.Entries.{entries_in, Entries}
-use Rattle.calendar.specs.Steps.{Step, ReadInto, was_field, calendar_refused}
+use Rattle.calendar.specs.declared.hours.Entry.{Entry as Held}
+use Rattle.calendar.specs.Entries.{entries_in, entries_long, Entries}
+use Rattle.semantics.specs.Definitions.Reading.{field}
+use Rattle.calendar.specs.Steps.{reading_by}
 use Rattle.guess.specs.declared.outline.Outline.{Outline}
 use Rattle.guess.specs.Programs.{unmasked_in, setting_in, WithinLimits, Outlines}
-use Rattle.std.specs.Prelude.{Ok, Err}
+use Rattle.std.specs.Prelude.{Result, Ok, Err}
 use Rattle.answers.specs.Refusals.{number_of}
 use Rattle.answers.specs.declared.refusal.Refusal.{Refusal}
 use Rattle.sheet.specs.Refused.{refusal_of}
@@ -40,26 +42,27 @@ use Rattle.source.specs.Sources.{Scheduled, Reads, ReadsBoth}
 use Rattle.source.proofs.Opened.{few_loaded}
 
 -- ---- a sheet, and then a calendar
-module _ (s c words : List ℕ) where
-  module _ {x : Contents} (opens : opened_of (opened s) ≡ Ok x) {r : Step} (reads : ReadInto (calendar_of c x.rules) r words) where
-    pub both_read : {n : ℕ} → r ≡ Ok n → ReadsBoth s c (Ok (x, n)) words
-    both_read told =
+module _ (s c : List ℕ) (entries : List Held) where
+  module _ {x : Contents} (opens : opened_of (opened s) ≡ Ok x) {r : Result ℕ Refusal}
+      (reads : calendar_of c x.rules ≡ reading_by (λ n. field (entries_in (take n entries)) (length c)) r) where
+    pub both_read : {n : ℕ} → r ≡ Ok n → n ≤ length entries → ReadsBoth s c (Ok (x, n)) entries
+    both_read {n} told room =
         let (y, end, d, is) = opened_as (opened s) opens in
-        let (es, close, f, many) = was_field (λ es _. length es) (calendar_of c x.rules) reads.0 told in
         let of : calendar_of c (length y.rules) ≡ calendar_of c x.rules = ap (λ z. calendar_of c z.rules) (sym is) in
-        (y, es, record { end = end; opens = d; calendar_end = close; reads = of ∙ f }, is, many, ap (entries_in words) many ∙ reads.1 es close f)
+        let read = of ∙ reads ∙ ap (reading_by (λ n. field (entries_in (take n entries)) (length c))) told in
+        (y, entries_in (take n entries), record { end = end; opens = d; calendar_end = length c; reads = read }, is, sym (entries_long entries n room), refl)
 
-    pub calendar_turned_back : {q : Refusal} → r ≡ Err q → ReadsBoth s c (Err q) words
+    pub calendar_turned_back : {q : Refusal} → r ≡ Err q → ReadsBoth s c (Err q) entries
     calendar_turned_back told =
         let (y, end, d, is) = opened_as (opened s) opens in
         let of : calendar_of c (length y.rules) ≡ calendar_of c x.rules = ap (λ z. calendar_of c z.rules) (sym is) in
-        inr (y, end, d, of ∙ calendar_refused c x.rules reads.0 told)
+        inr (y, end, d, of ∙ reads ∙ ap (reading_by (λ n. field (entries_in (take n entries)) (length c))) told)
 
-  pub sheet_turned_back : {q : Refusal} → opened_of (opened s) ≡ Err q → ReadsBoth s c (Err q) words
+  pub sheet_turned_back : {q : Refusal} → opened_of (opened s) ≡ Err q → ReadsBoth s c (Err q) entries
   sheet_turned_back e = inl (opened_refused s e)
 
 -- ---- what was read of both
-module _ (s c entries : List ℕ) (r : Scheduled) (h : ReadsBoth s c r entries) where
+module _ (s c : List ℕ) (entries : List Held) (r : Scheduled) (h : ReadsBoth s c r entries) where
   pub turned_back : {q : Refusal} → r ≡ Err q → TurnedAway s c (number_of q.reason) q.place
   turned_back told = subst (λ z. ReadsBoth s c z entries) told h
 
@@ -81,20 +84,23 @@ module _ (s c entries : List ℕ) (r : Scheduled) (h : ReadsBoth s c r entries) 
     unfolding sheet-said
     is = both.3
 
-    pub same_entries : entries_in entries n ≡ entries_read
+    pub same_entries : entries_in (take n entries) ≡ entries_read
     unfolding entries_read
     same_entries = both.5
 
     pub few_said : x.rules ≤ most_rules
     few_said = subst (λ z. z.rules ≤ most_rules) (sym is) (accepted_read s sheet-said accepts.end accepts.opens).0.front_read.few_rules
 
-    pub entries_stand : 3 * most_entries ≤ length entries → Entries x.rules entries n
+    pub few_entries : n ≤ most_entries
     unfolding entries_read
-    entries_stand room =
+    few_entries = omega (arith, (calendar-read c _ entries_read accepts.calendar_end accepts.reads).few_entries, both.4)
+
+    pub entries_stand : Entries x.rules (take n entries)
+    unfolding entries_read
+    entries_stand =
         let read = calendar-read c _ entries_read accepts.calendar_end accepts.reads in
         let good : AllProper x.rules entries_read = subst (λ z. AllProper z.rules entries_read) (sym is) read.all_proper in
         record {
-          stand = omega (arith, read.few_entries, both.4);
           few_rules = few_said;
           all_proper = subst (AllProper x.rules) (sym same_entries) good;
         }
@@ -108,7 +114,7 @@ module _ (s c entries : List ℕ) (r : Scheduled) (h : ReadsBoth s c r entries) 
       minute_over words l = (minute_refused s c minute 12 0).1 (inr (sheet-said, entries_read, accepts, l, refl, refl))
 
       -- the rules in force were loaded
-      module _ (words : List ℕ) (set kept : ℕ) (force : set ≡ rules_in_force (entries_in entries n) x.rules minute) (few-kept : kept ≤ x.rules + x.pairs)
+      module _ (words : List ℕ) (set kept : ℕ) (force : set ≡ rules_in_force (entries_in (take n entries)) x.rules minute) (few-kept : kept ≤ x.rules + x.pairs)
           (loads : LoadsOnly s set kept words) (room : 8 * program_room ≤ length words) where
         left : Sheet
         left = at_minute entries_read minute sheet-said

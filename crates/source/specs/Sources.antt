@@ -1,5 +1,5 @@
 -- A source as the code holds it. Assumes nothing.
-use Rattle.std.specs.Prelude.{ℕ, ◌≤◌, ◌≡◌, List, length, Result, Ok, Err}
+use Rattle.std.specs.Prelude.{ℕ, ◌≤◌, ◌≡◌, List, length, take, Result, Ok, Err}
 use Rattle.semantics.specs.Definitions.Setting.{Setting}
 use Rattle.semantics.specs.Definitions.Check.{most_negations}
 use Rattle.semantics.specs.Definitions.Returned.{Returned, accepted, refusal}
@@ -7,6 +7,7 @@ use Rattle.semantics.specs.Definitions.Sheet.{Sheet}
 use Rattle.semantics.specs.Definitions.Calendar.{Entry}
 use Rattle.semantics.specs.Theorems.CalendarCalls.{Both, TurnedAway}
 use Rattle.sheet.specs.Opened.{contents}
+use Rattle.calendar.specs.declared.hours.Entry.{Entry as Held}
 use Rattle.calendar.specs.Entries.{entries_in}
 use Rattle.guess.specs.Programs.{setting_in, Outlines}
 use Rattle.answers.specs.Refusals.{number_of}
@@ -32,11 +33,11 @@ abbrev pub Outlined : Source → (words : List ℕ) → Type 0
 Outlined (Ok x) words = Outlines x words
 Outlined (Err q) words = Unit {0}
 
--- a sheet says what x keeps, and its calendar has n entries, which stand in the words; or one of them is refused so
-abbrev pub ReadsBoth : (sheet calendar : List ℕ) → Scheduled → (words : List ℕ) → Type 0
-ReadsBoth sheet calendar (Ok (x, n)) words =
-    (y : Sheet) × (es : List Entry) × Both sheet calendar y es × (x ≡ contents y) × (n ≡ length es) × (entries_in words n ≡ es)
-ReadsBoth sheet calendar (Err q) words = TurnedAway sheet calendar (number_of q.reason) q.place
+-- a sheet says what x keeps, and its calendar has n entries, the first ones of these; or one of them is refused so
+abbrev pub ReadsBoth : (sheet calendar : List ℕ) → Scheduled → (entries : List Held) → Type 0
+ReadsBoth sheet calendar (Ok (x, n)) entries =
+    (y : Sheet) × (es : List Entry) × Both sheet calendar y es × (x ≡ contents y) × (n ≡ length es) × (entries_in (take n entries) ≡ es)
+ReadsBoth sheet calendar (Err q) entries = TurnedAway sheet calendar (number_of q.reason) q.place
 
 -- a source with one check more
 abbrev pub ReadsOn : (check : Returned Setting → Returned Setting) (before after : Source) → Type 0

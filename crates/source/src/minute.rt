@@ -6,17 +6,17 @@ ghost use Rattle.source.specs.Sources.{Reads, ReadsBoth};
 
 use super::Source;
 use answers::{Reason, Refusal};
-use calendar::{in_force, read};
+use calendar::{Entry, in_force, read};
 use guess::outline::outline_of;
 use opened::load_only;
 use sheet::{Contents, open};
 
-// What a sheet says, and how many entries of its calendar stand in words; or the refusal of one of them.
+// What a sheet says, and how many entries its calendar has; or the refusal of one of them.
 pub type Scheduled = Result<(Contents, usize), Refusal>;
 
 // Reads the whole sheet, refusals 1 to 7 and 15, and then the calendar: 1, 2, 11 and 6.
-pub fn with_calendar(sheet: &[u8], calendar: &[u8], entries: &mut [u16]) -> Scheduled
-    requires { 3 * most_entries ≤ length entries.old }
+pub fn with_calendar(sheet: &[u8], calendar: &[u8], entries: &mut [Entry]) -> Scheduled
+    requires { most_entries ≤ length entries.old }
     ensures entries_len_unchanged { length entries.new ≡ length entries.old }
     ensures reads_both { ReadsBoth sheet.now calendar.now result entries.new }
 {
@@ -31,7 +31,12 @@ pub fn at_minute(sheet: &[u8], calendar: &[u8], minute: u32, words: &mut [u16]) 
     ensures words_len_unchanged { length words.new ≡ length words.old }
     ensures reads { Reads (of_minute sheet.now calendar.now minute) result words.new }
 {
-    let mut entries = [0u16; 192];
+    let none = Entry {
+        rule: 0,
+        first: 0,
+        end: 0,
+    };
+    let mut entries = [none; 64];
     let (x, n) = with_calendar(sheet, calendar, &mut entries[..])?;
     if 10079 < minute {
         return Err(Refusal {
@@ -39,7 +44,7 @@ pub fn at_minute(sheet: &[u8], calendar: &[u8], minute: u32, words: &mut [u16]) 
             place: 0,
         });
     }
-    let set = in_force(&entries[..], n, x.rules, minute as u16);
+    let set = in_force(&entries[..n], x.rules, minute as u16);
     let rules = load_only(sheet, x, set, &mut words[..]);
     Ok(outline_of(&words[..], x.atoms, rules))
 }

@@ -7,7 +7,7 @@ use lib.Seq.{length-take-le}
 use Rattle.semantics.specs.Definitions.Returned.{refusal}
 use Rattle.semantics.specs.Definitions.Calendar.{changes_call}
 use Rattle.semantics.proofs.Theorems.CalendarCalls.{changes_refused}
-use Rattle.source.proofs.Calendars.{turned_back, entries_stand}
+use Rattle.source.proofs.Calendars.{turned_back, few_entries, entries_stand}
 use Rattle.std.specs.Prelude.{Ok, Err}
 use Rattle.sheet.specs.Refused.{refusal_of}
 use Rattle.std.proofs.lemmas.Result.{err_from_is_err_and}
@@ -20,7 +20,7 @@ pub minutes_of_change-count-requires : goal.minutes_of_change-count-requires
 minutes_of_change-count-requires c =
     let a = c.args in
     let r = c.with_calendar in
-    (entries_stand a.sheet.now a.calendar.now _ r.result r.ensures.reads_both c.in_ok-x.was (search rules), search rules)
+    (entries_stand a.sheet.now a.calendar.now _ r.result r.ensures.reads_both c.in_ok-x.was, search rules)
 
 pub returns-then-out-count : goal.returns-then-out-count
 returns-then-out-count c =
@@ -56,3 +56,18 @@ returns-in_err-x c =
     (kept length (λ w. w) a.out.now ((changes_refused a.sheet.now a.calendar.now (length a.out.now) _ _).1 (inl (turned_back a.sheet.now a.calendar.now _ r.result r.ensures.reads_both c.in_err-x.was)))) in
     let p = err_from_is_err_and c.from_residual.result c.from_residual.ensures.1 in
     rw (p.1, p.2) (record { result_value = met.0; out_after = met.1.0; changes_demand = met.1.1 })
+
+pub slice_bounds-entries-end : goal.slice_bounds-entries-end
+slice_bounds-entries-end c =
+    let a = c.args in
+    let r = c.with_calendar in
+    let few = few_entries a.sheet.now a.calendar.now _ r.result r.ensures.reads_both c.in_ok-x.was in
+    omega (arith, few, r.ensures.entries_len_unchanged)
+
+pub slice_bounds-minutes_of_change-end : goal.slice_bounds-minutes_of_change-end
+slice_bounds-minutes_of_change-end c =
+    let a = c.args in
+    let r = c.with_calendar in
+    let few = few_entries a.sheet.now a.calendar.now _ r.result r.ensures.reads_both c.in_ok-x.was in
+    let long = length-take-le c.in_ok-x.n r.new.entries (omega (arith, few, r.ensures.entries_len_unchanged)) in
+    omega (arith, long)

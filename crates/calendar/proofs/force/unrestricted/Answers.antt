@@ -25,7 +25,7 @@ unfolding force.unrestricted
 loop-rule-preserved c =
     let a = c.args in
     let l = c.loop-rule in
-    let free : ℕ → Bool = λ rule. null (entries_of (entries_in a.entries.now a.n) rule) in
+    let free : ℕ → Bool = λ rule. null (entries_of (entries_in a.entries.now) rule) in
     let same : not c.restricted-some.result ≡ free l.rule = ap not c.restricted-some.ensures ∙ twice (free l.rule) in
     (omega arith, c.include-set.ensures ∙ ap₂ (λ b set. cond b (single l.rule) ∅ ∪ set) same l.invariant.1 ∙ rw (add-one l.rule) (sym (set_of-suc free l.rule)))
 

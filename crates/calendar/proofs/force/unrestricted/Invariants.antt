@@ -6,4 +6,4 @@ use Rattle.calendar.specs.Force as force
 use Rattle.calendar.proofs.force.unrestricted.Given as goal
 
 abbrev pub invariant-loop-rule : goal.invariant-loop-rule
-invariant-loop-rule l = (l.rule ≤ l.rules) × (l.set ≡ force.unrestricted (entries_in l.entries l.n) l.rule)
+invariant-loop-rule l = (l.rule ≤ l.rules) × (l.set ≡ force.unrestricted (entries_in l.entries) l.rule)

@@ -5,6 +5,7 @@ use mathlib.Core.Path.{◌≡◌, refl, sym, ap, ◌∙◌, subst}
 use native.Mathlib.Omega.{arith}
 use lib.ListN.{take}
 use Rattle.semantics.specs.Definitions.Calendar.{last_minute, rules_in_force}
+use Rattle.calendar.specs.declared.hours.Entry.{Entry as Held}
 use Rattle.calendar.specs.Entries.{entries_in, Entries}
 use Rattle.calendar.specs.Force.{held_from, unrestricted}
 use Rattle.calendar.specs.Next.{next_of}
@@ -12,12 +13,12 @@ use Rattle.calendar.proofs.Gathered.{numbered, held_in_force}
 use Rattle.calendar.proofs.Between.{next_after, Listed, begun, turned, ended}
 use Rattle.calendar.proofs.minutes.minutes_of_change.Goals as goal
 
-held : {rules : ℕ} {words : List ℕ} {n : ℕ} → Entries rules words n → (minute : ℕ) {always set : ℕ} → always ≡ unrestricted (entries_in words n) rules
-    → set ≡ held_from always minute (entries_in words n) → set ≡ rules_in_force (entries_in words n) rules minute
-held {rules} {words} {n} p minute free e = e ∙ ap (λ a. held_from a minute (entries_in words n)) free ∙ held_in_force (entries_in words n) rules minute p.all_proper
+held : {rules : ℕ} {es : List Held} → Entries rules es → (minute : ℕ) {always set : ℕ} → always ≡ unrestricted (entries_in es) rules
+    → set ≡ held_from always minute (entries_in es) → set ≡ rules_in_force (entries_in es) rules minute
+held {rules} {es} p minute free e = e ∙ ap (λ a. held_from a minute (entries_in es)) free ∙ held_in_force (entries_in es) rules minute p.all_proper
 
 pub unrestricted-always-requires : goal.unrestricted-always-requires
-unrestricted-always-requires c = let p = c.requires.0 in (p.stand, p.few_rules)
+unrestricted-always-requires c = c.requires.0.few_rules
 
 pub with_held-before-requires : goal.with_held-before-requires
 with_held-before-requires c = numbered c.requires.0
@@ -27,7 +28,7 @@ with_held-before-requires c = numbered c.requires.0
 pub loop-minute-init : goal.loop-minute-init
 loop-minute-init c =
     let a = c.args in
-    (refl, omega arith, begun (entries_in a.entries.now a.n) a.rules (held c.requires.0 last_minute c.unrestricted-always.ensures c.with_held-before.ensures))
+    (refl, omega arith, begun (entries_in a.entries.now) a.rules (held c.requires.0 last_minute c.unrestricted-always.ensures c.with_held-before.ensures))
 
 pub with_held-held-requires : goal.with_held-held-requires
 with_held-held-requires c = numbered c.requires.0
@@ -35,19 +36,16 @@ with_held-held-requires c = numbered c.requires.0
 pub add-count-requires : goal.add-count-requires
 add-count-requires c = let inv = c.loop-minute.invariant in omega (arith, inv.0, inv.1, c.requires.1)
 
-pub next-minute-requires : goal.next-minute-requires
-next-minute-requires c = c.requires.0.stand
-
 pub loop-minute-smaller : goal.loop-minute-smaller
 loop-minute-smaller c =
     let a = c.args in
     let m = c.loop-minute.minute in
-    omega (arith, c.next-minute.ensures, next_after m (entries_in a.entries.now a.n) (omega arith))
+    omega (arith, c.next-minute.ensures, next_after m (entries_in a.entries.now) (omega arith))
 
 pub loop-minute-preserved : goal.loop-minute-preserved
 loop-minute-preserved c =
     let a = c.args in
-    let es = entries_in a.entries.now a.n in
+    let es = entries_in a.entries.now in
     let l = c.loop-minute in
     let w = c.add-count in
     let next = c.next-minute.ensures in
@@ -69,5 +67,5 @@ returns c =
     record {
       out_len_unchanged = l.invariant.0;
       upper_bound = omega (arith, l.invariant.1, l.invariant.2.week, c.requires.1);
-      out_after = ended (entries_in a.entries.now a.n) a.rules l.invariant.2 c.loop-minute-test.false;
+      out_after = ended (entries_in a.entries.now) a.rules l.invariant.2 c.loop-minute-test.false;
     }

@@ -8,7 +8,7 @@ use Rattle.calendar.proofs.Between.{Listed}
 use Rattle.calendar.proofs.minutes.minutes_of_change.Given as goal
 
 abbrev pub invariant-loop-minute : goal.invariant-loop-minute
-invariant-loop-minute l = (length l.out ≡ length l.initial.out) × (l.count ≤ l.minute) × Listed (entries_in l.entries l.n) l.rules l.minute l.before (take l.count l.out)
+invariant-loop-minute l = (length l.out ≡ length l.initial.out) × (l.count ≤ l.minute) × Listed (entries_in l.entries) l.rules l.minute l.before (take l.count l.out)
 
 abbrev pub decreases-loop-minute : goal.decreases-loop-minute
 decreases-loop-minute l = suc last_minute - l.minute

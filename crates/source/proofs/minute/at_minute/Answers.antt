@@ -1,10 +1,11 @@
 -- `source::minute::at_minute` meets its contract. Assumes nothing.
 use mathlib.Core.Path.{refl}
 use native.Mathlib.Omega.{arith}
+use lib.Seq.{length-take-le}
 use mathlib.Core.Logic.{inl}
 use Rattle.semantics.proofs.Theorems.CalendarCalls.{minute_refused}
 use Rattle.source.proofs.Opened.{few_loaded}
-use Rattle.source.proofs.Calendars.{turned_back, entries_stand, holds, minute_over, within_left, minute_reads}
+use Rattle.source.proofs.Calendars.{turned_back, few_entries, entries_stand, holds, minute_over, within_left, minute_reads}
 use borrow.Author.Rules.{rules}
 use Rattle.std.proofs.lemmas.Result.{err_from_is_err_and}
 use Rattle.source.proofs.minute.at_minute.Goals as goal
@@ -22,7 +23,7 @@ pub in_force-set-requires : goal.in_force-set-requires
 in_force-set-requires c =
     let a = c.args in
     let r = c.with_calendar in
-    entries_stand a.sheet.now a.calendar.now _ r.result r.ensures.reads_both c.in_ok-x.was (search rules)
+    entries_stand a.sheet.now a.calendar.now _ r.result r.ensures.reads_both c.in_ok-x.was
 
 pub load_only-rules-requires : goal.load_only-rules-requires
 load_only-rules-requires c =
@@ -55,3 +56,18 @@ returns-in_err-x-clause-reads c =
     let r = c.with_calendar in
     let p = err_from_is_err_and c.from_residual.result c.from_residual.ensures.1 in
     rw (p.1, p.2) ((minute_refused a.sheet.now a.calendar.now a.minute _ _).1 (inl (turned_back a.sheet.now a.calendar.now _ r.result r.ensures.reads_both c.in_err-x.was)))
+
+pub slice_bounds-entries-end : goal.slice_bounds-entries-end
+slice_bounds-entries-end c =
+    let a = c.args in
+    let r = c.with_calendar in
+    let few = few_entries a.sheet.now a.calendar.now _ r.result r.ensures.reads_both c.in_ok-x.was in
+    omega (arith, few, r.ensures.entries_len_unchanged)
+
+pub slice_bounds-in_force-end : goal.slice_bounds-in_force-end
+slice_bounds-in_force-end c =
+    let a = c.args in
+    let r = c.with_calendar in
+    let few = few_entries a.sheet.now a.calendar.now _ r.result r.ensures.reads_both c.in_ok-x.was in
+    let long = length-take-le c.in_ok-x.n r.new.entries (omega (arith, few, r.ensures.entries_len_unchanged)) in
+    omega (arith, long)
