@@ -2,7 +2,7 @@
 
 use answers::Refusal;
 
-// Where a reading stands, and what it has read so far.
+// Where a reading stands, and what it has read so far. `Contents` in it would hold a number of negations that no step knows.
 #[derive(Clone, Copy)]
 pub struct Cursor {
     // the next place
@@ -19,4 +19,5 @@ pub struct Cursor {
 
 // What a reading step answers: a field, as the number that it holds or counts, and the cursor after it; or a refusal. Each caller takes it
 // apart by `let .. else` and hands a refusal on as it is.
+// The loops over names, rules, masks and pairs stay four: each takes its own field apart, as the documents have it.
 pub type Field = Result<(usize, Cursor), Refusal>;
