@@ -7,6 +7,7 @@ ghost use Rattle.calendar.specs.Force.{unrestricted as unrestrictedOf, held_from
 
 use super::hours::Entry;
 use sets::Set;
+
 // Is the minute in the hours from first to end?
 fn open_at(first: u16, end: u16, minute: u16) -> bool
     ensures { result ≡ open_at first end minute }

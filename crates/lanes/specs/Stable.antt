@@ -1,4 +1,5 @@
--- The numbers for which i is a model of the rules that are on, and no proper subset is, where the plain atoms of all are in i. Assumes nothing.
+-- The numbers for which i is a model of the rules that are on, and no proper subset is, where of each rule the plain atoms are in i and its head has
+-- been cut to i. Assumes nothing.
 use Rattle.std.specs.Prelude.{ℕ, ◌+◌, ◌*◌, ◌<◌, ◌≡◌, List, length, get_or, set}
 use Rattle.std.proofs.Common.{subst, ⊎_elim, arith, not-suc-le-zero, get_or-set_same, get_or-set_other, below_more}
 use Rattle.sets.specs.Decides.{decided, dec_eq}
@@ -19,7 +20,7 @@ SwitchedOn rules r g = InCube ((rule_at rules r).misses) ((rule_at rules r).hold
 pub record HeadsMeet (rules : List Rule) (n g : ℕ) : Type 0 where
   pub rule : (r : ℕ) → r < n → (rule_at rules r).head ≡ 0 → SwitchedOn rules r g → ⊥
 
--- i is a model of the rules that are on for g, and no proper subset is
+-- i is a model of the rules that are on for g, and no proper subset is (their heads are cut to i)
 pub record StableFor (rules : List Rule) (n i g : ℕ) : Type 0 where
   pub model : HeadsMeet rules n g
   pub minimal : (j : ℕ) → j ⊂ i → ((r : ℕ) → r < n → SwitchedOn rules r g → Fails (rule_at rules r) j → ⊥) → ⊥

@@ -1,4 +1,4 @@
-// For which numbers a set i is stable.
+// For which numbers a set i is stable, by rules whose heads are cut to i.
 ghost use Rattle.std.specs.Prelude.{◌≡◌, ◌+◌, ◌*◌, ◌≤◌, length};
 ghost use Rattle.sets.specs.Sets.{◌∈◌};
 ghost use Rattle.lanes.specs.Lanes.{Lanes};

@@ -48,7 +48,7 @@ pub fn gather(
     ensures out_after { out.new ≡ over (stable_sets atoms (program_in program.now rules ++ day_constraints ins outs)) out.old }
 {
     let end = power(atoms as u16);
-    // No heap: a fixed room, for as many rules as a program has.
+    // No heap: a fixed room, for as many rules as a program has room for.
     let mut room = [PositiveRule { head: 0, plain: 0 }; 71];
     let mut nogoods = Nogoods::new(Nogood { has: 1, lacks: 1 });
     let mut known = full(atoms as u16);
