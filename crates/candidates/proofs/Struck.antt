@@ -44,7 +44,7 @@ apart_right x y i f m = f (record { common = m.common; left = (∈-∪ m.common 
 dec_allowed : (ins outs i : ℕ) → Decides (InCube outs ins i) (allowed ins outs i)
 dec_allowed ins outs i = dec_iff (λ q. record { apart = q.1; within = q.0 }, λ c. (c.within, c.apart)) (dec_and (dec_⊆ ins i) (dec_not (dec_meets outs i)))
 
-module _ {x : Outline} {words : List ℕ} {digests : List Digest} (o : Outlines x words) (d : Digested x words digests) where
+module _ {x : Outline} {words : List ℕ} {digests : List Digest} (o : Outlines x words) (d : Digested x words digests) (long : length digests ≡ x.rules) where
   abbrev s : Setting
   s = unmasked_in x words
 
@@ -58,7 +58,7 @@ module _ {x : Outline} {words : List ℕ} {digests : List Digest} (o : Outlines 
   module _ (i : ℕ) (fits : i < 2 ^ x.atoms) {g : ℕ} (t : StableBy (at_set x words i) i g) where
     -- no rule without K and M fails in a stable set
     none_fails : NoneFails digests (length digests) i
-    none_fails = record { rule = λ j h f. let k : j < x.rules = omega (arith, d.stand) in fails k (subst (λ z. Fails z i) (d.rule k) f) }
+    none_fails = record { rule = λ j h f. let k : j < x.rules = omega (arith, long) in fails k (subst (λ z. Fails z i) (d.rule k) f) }
       where
         fails : {j : ℕ} → j < x.rules → Fails (digest_of s (rule_of_masks (masks_in words j))) i → ⊥
         fails {j} h f =
@@ -74,7 +74,7 @@ module _ {x : Outline} {words : List ℕ} {digests : List Digest} (o : Outlines 
       atom = λ a k m. ⊎_elim (λ h. h) (λ h. absurd (unsupported_struck x.atoms rs i (masks_below o) fits m (λ r c body plain head alone apart.
           let q = r.objective in
           let (j, here, is) = number c in
-          h (u.rule (omega (arith, here, d.stand)) l (subst (λ z. Supports (digest_in digests j) z a) e (subst (λ z. Supports z i a) (sym is) record {
+          h (u.rule (omega (arith, here, long)) l (subst (λ z. Supports (digest_in digests j) z a) e (subst (λ z. Supports z i a) (sym is) record {
             atom = (∈-∖ a q.head _).1 (head, apart);
             alone = record {
               apart = apart_∪ q.nots (q.head ∖ single a) i body.1.0 alone;

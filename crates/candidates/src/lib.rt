@@ -39,6 +39,7 @@ pub fn candidates(patterns: &Patterns, words: &[u16], x: Outline, digests: &[Dig
     if allowed == 0 {
         return 0;
     }
+    let digests = &digests[..x.rules];
     let models = objective_models(patterns, digests, w, allowed);
     if models == 0 {
         return 0;

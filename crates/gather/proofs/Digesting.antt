@@ -37,9 +37,16 @@ one_more {x} {words} {a} {n} {d} f h right = record {
 -- as many as there are rules
 pub all_written : {x : Outline} {words : List ℕ} {a : List Digest} → UpTo x words a x.rules → x.rules ≤ length a → Digested x words (take x.rules a)
 all_written {x} {words} {a} f h = record {
-  stand = length-take-le x.rules a h;
+  stand = omega (arith, length-take-le x.rules a h);
   rule = λ {j} k. get_or-take x.rules a j _ k ∙ f.rule k;
 }
+
+-- ---- those of the rules alone, where more are lent
+pub exactly : {x : Outline} {words : List ℕ} {a : List Digest} → Digested x words a → Digested x words (take x.rules a)
+exactly {x} {words} {a} d = all_written (record { rule = d.rule }) d.stand
+
+pub as_many : {x : Outline} {words : List ℕ} {a : List Digest} → Digested x words a → length (take x.rules a) ≡ x.rules
+as_many {x} {words} {a} d = length-take-le x.rules a d.stand
 
 -- ---- one digest
 module _ {x : Outline} {words : List ℕ} (o : Outlines x words) (j : ℕ) where

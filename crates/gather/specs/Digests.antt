@@ -1,5 +1,5 @@
 -- The digest of the rules, as the code has it. Assumes nothing.
-use Rattle.std.specs.Prelude.{ℕ, ◌<◌, ◌≡◌, List, length, slice_index_or}
+use Rattle.std.specs.Prelude.{ℕ, ◌≤◌, ◌<◌, ◌≡◌, List, length, slice_index_or}
 use Rattle.sets.specs.Sets.{◌∪◌, ∅}
 use Rattle.semantics.specs.Definitions.Rules.{EpistemicRule}
 use Rattle.semantics.specs.Definitions.Sheet.{rule_of_masks}
@@ -27,5 +27,5 @@ digest_in digests j = slice_index_or digests j (record { head = ∅; body = ∅;
 
 -- of every rule in the words
 pub record Digested (x : Outline) (words : List ℕ) (digests : List Digest) : Type 0 where
-  pub stand : length digests ≡ x.rules
+  pub stand : x.rules ≤ length digests
   pub rule : {j : ℕ} → j < x.rules → digest_in digests j ≡ digest_of (unmasked_in x words) (rule_of_masks (masks_in words j))

@@ -65,7 +65,7 @@ pub fn gather(
 {
     let mut atoms = 0;
     let mut n = 0;
-    for &r in digests {
+    for &r in &digests[..x.rules] {
         if r.switches(i, needed) {
             let e = r.at_set(i, needed);
             if e.head | e.misses | e.holds == 0 {

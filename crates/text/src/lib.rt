@@ -9,11 +9,10 @@ mod numbers;
 ghost use Rattle.std.specs.Prelude.{◌≤◌, length};
 ghost use Rattle.semantics.specs.Definitions.Check.{numbers};
 ghost use Rattle.semantics.specs.Definitions.Program.{sheet_line, view_line, set_line, tally_line, refused_line};
-ghost use Rattle.answers.specs.Refusals.{number_of};
 ghost use Rattle.text.specs.Appended.{Counts};
 ghost use Rattle.text.specs.Lines.{Holds, HoldsFor, view_read, set_read, tally_from};
 
-use answers::{Refusal, Tally};
+use answers::Tally;
 pub use bytes::put;
 use names::put_names;
 pub use numbers::{put_decimal, put_field};
@@ -74,13 +73,13 @@ pub fn tally_line(tally: Tally, out: &mut [u8]) -> usize
 }
 
 // `refused`, number, place.
-pub fn refused_line(refusal: Refusal, out: &mut [u8]) -> usize
+pub fn refused_line(number: u8, place: usize, out: &mut [u8]) -> usize
     requires { 256 ≤ length out.old }
     ensures counts { Counts result out.new }
-    ensures holds { Holds (refused_line (number_of refusal.reason) refusal.place) out.old out.new result }
+    ensures holds { Holds (refused_line number place) out.old out.new result }
 {
     let a = put(b"refused", 0, out);
-    let b = put_field(refusal.reason.number() as usize, a, out);
-    let c = put_field(refusal.place, b, out);
+    let b = put_field(number as usize, a, out);
+    let c = put_field(place, b, out);
     put(b"\n", c, out)
 }

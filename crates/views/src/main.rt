@@ -40,7 +40,7 @@ fn print_tally(tally: Tally, mut out: Stdout) -> io::Result<()> {
 
 fn print_refused(refusal: Refusal, mut out: Stdout) -> io::Result<()> {
     let mut line = [0u8; 256];
-    let n = text::refused_line(refusal, &mut line);
+    let n = text::refused_line(refusal.reason.number(), refusal.place, &mut line);
     out.write_all(&line[..n])
 }
 

@@ -4,7 +4,7 @@ use Rattle.text.proofs.refused_line.Goals as goal
 
 pub returns-clause-holds : goal.returns-clause-holds
 returns-clause-holds c =
-    rw (← c.number.ensures) ((finish (one_more (one_more (begin c.put-a.ensures)
+    (finish (one_more (one_more (begin c.put-a.ensures)
     c.put_field-b.ensures.appended)
     c.put_field-c.ensures.appended)
-    c.put.ensures).1)
+    c.put.ensures).1
