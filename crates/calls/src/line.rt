@@ -28,7 +28,8 @@ pub fn respond(
 {
     let mut cells = [0u16; 33000];
     number(&mut cells[..count], first);
-    let mut line = Line::new(asked.call, stdout);
+    let mut line = Line::new(stdout);
+    line.begin(asked.call);
     answer(asked, sheet, companion, &mut cells[..count], &mut line)?;
     line.mark(b" :")?;
     line.words(&cells[..count])?;

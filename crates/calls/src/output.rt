@@ -14,11 +14,18 @@ pub struct Line {
 }
 
 impl Line {
+    // An empty line. What it begins with is written by `begin`, in place: a buffer that has been written would be copied where it is returned.
+    pub fn new(to: Stdout) -> Line {
+        Line {
+            bytes: [0; 65536],
+            at: 0,
+            to,
+        }
+    }
+
     // The line of a call begins with its number.
-    pub fn new(call: Call, to: Stdout) -> Line {
-        let mut bytes = [0u8; 65536];
-        let at = text::put_decimal(call as usize, 0, &mut bytes);
-        Line { bytes, at, to }
+    pub fn begin(&mut self, call: Call) {
+        self.at = text::put_decimal(call as usize, 0, &mut self.bytes);
     }
 
     // Room for 64 bytes more.

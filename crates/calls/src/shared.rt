@@ -42,7 +42,8 @@ fn lend(
     let u = sheet(p.each[2], companion);
     let v = sheet(p.each[3], companion);
     let r = share(p.count, s, t, u, v, allowance, a, b, c, d);
-    let mut line = Line::new(Call::SharedAllowance, stdout);
+    let mut line = Line::new(stdout);
+    line.begin(Call::SharedAllowance);
     shared(r, p.count, &mut line)?;
     line.mark(b" :")?;
     line.words(a)?;

@@ -24,32 +24,32 @@ impl Nogoods {
     ghost use Rattle.stable.specs.Nogoods.{Excludes};
     ghost use Rattle.stable.specs.Kept.{NogoodsHold};
 
-    // The same nogood in every place.
+    // The same nogood in every place. Places are filled from number 1 on, and number 0 last.
     pub fn new(nogood: Nogood) -> Nogoods
         ensures { result.kept ≡ replicate KEPT nogood }
     {
         Nogoods {
             kept: [nogood; KEPT],
-            first: 0,
-            oldest: 0,
+            first: 1,
+            oldest: 1,
         }
     }
 
-    // The number of a nogood that excludes i, if any: the one to be asked first, or else the first of all.
+    // The number of the first nogood that excludes i, if any.
     fn excluded_by(&self, i: u16) -> Option<usize>
         ensures { IfSome result (λ k. let r = slice_index_or self.now.kept k (record { has = 0; lacks = 0 }) in (k < KEPT) × (allowed r.has r.lacks i ≡ true)) }
     {
-        if self.kept[self.first].excludes(i) {
-            return Some(self.first);
-        }
         self.kept.iter().position(|nogood| nogood.excludes(i))
     }
 
-    // Does one of them exclude i? That one is then the one to be asked first.
+    // Does one of them exclude i? The one to be asked first is asked first; where it doesn't, the first that does takes its place.
     pub fn exclude(&mut self, i: u16) -> bool
         ensures still { (ins outs : ℕ) (p : List Rule) → NogoodsHold ins outs p self.old → NogoodsHold ins outs p self.new }
         ensures excluded { (ins outs : ℕ) (p : List Rule) → NogoodsHold ins outs p self.old → result ≡ true → stable_under ins outs p i ≡ false }
     {
+        if self.kept[self.first].excludes(i) {
+            return true;
+        }
         match self.excluded_by(i) {
             Some(k) => {
                 self.first = k;
@@ -59,7 +59,9 @@ impl Nogoods {
         }
     }
 
-    // Keeps a nogood in the place of the oldest, as the one to be asked first.
+    // Keeps a nogood in the place of the oldest, as the one to be asked first. Not inlined: few sets give a nogood, and the walk over the others
+    // stays short.
+    #[inline(never)]
     pub fn keep(&mut self, nogood: Nogood)
         ensures { (ins outs : ℕ) (p : List Rule) → NogoodsHold ins outs p self.old → Excludes ins outs p nogood.has nogood.lacks → NogoodsHold ins outs p self.new }
     {

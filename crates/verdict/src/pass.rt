@@ -47,7 +47,8 @@ pub fn gather(
     ensures result_value { gathered_by result ≡ gathered atoms (program_in program.now rules ++ day_constraints ins outs) }
     ensures out_after { out.new ≡ over (stable_sets atoms (program_in program.now rules ++ day_constraints ins outs)) out.old }
 {
-    let end = power(atoms as u16);
+    // Counted as usize: as u16 the end would be tested by a shift at each set.
+    let end = power(atoms as u16) as usize;
     // No heap: a fixed room, for as many rules as a program has room for.
     let mut room = [PositiveRule { head: 0, plain: 0 }; 71];
     let mut nogoods = Nogoods::new(Nogood { has: 1, lacks: 1 });
@@ -56,10 +57,11 @@ pub fn gather(
     let mut sets = 0;
     let mut tests = 0;
     for i in 0..end {
-        if test_set(program, rules, ins, outs, i, &mut nogoods, &mut room[..]) {
-            put(i, sets, &mut out[..]);
-            known = known & i;
-            possible = possible | i;
+        let set = i as u16;
+        if test_set(program, rules, ins, outs, set, &mut nogoods, &mut room[..]) {
+            put(set, sets, &mut out[..]);
+            known = known & set;
+            possible = possible | set;
             sets += 1;
         }
         tests += 1;

@@ -72,13 +72,14 @@ pub fn fill(words: &[u16], x: Outline, stable: &mut [u64], active: &mut [u64], t
     let all = digest_all(words, x);
     let digests = &all[..x.rules];
     clear(&mut table[..], 64 * active.len(), x.atoms);
-    let end = power(x.atoms as u16);
+    // Counted as usize: as u16 the end would be tested by a shift at each set.
+    let end = power(x.atoms as u16) as usize;
     let mut room = [Rule::default(); 71];
     let mut on = [0u64; 71];
     let mut sets = 0;
     for i in 0..end {
         if i % 64 == 0 {
-            sets = candidates(&patterns, words, x, digests, i / 64);
+            sets = candidates(&patterns, words, x, digests, (i / 64) as u16);
         }
         if sets.has((i % 64) as u64) {
             note_set(
@@ -86,7 +87,7 @@ pub fn fill(words: &[u16], x: Outline, stable: &mut [u64], active: &mut [u64], t
                 words,
                 x,
                 digests,
-                i,
+                i as u16,
                 &mut room[..],
                 &mut on[..],
                 &mut stable[..],
