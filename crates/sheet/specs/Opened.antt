@@ -1,5 +1,5 @@
 -- What opening a sheet answers, and what the answer says. Assumes nothing.
-use Rattle.std.specs.Prelude.{ℕ, ◌≡◌, refl, List, length, Result, Ok, Err}
+use Rattle.std.specs.Prelude.{ℕ, ◌≡◌, ◌≤◌, refl, List, length, Result, Ok, Err}
 use Rattle.std.proofs.Common.{⊎_elim, arith, sym, ap, ◌∙◌}
 use Rattle.sets.specs.Decides.{unequal}
 use Rattle.semantics.specs.Definitions.Reading.{Reading, field, refused}
@@ -34,18 +34,19 @@ pub opened_as : (r : Reading Sheet) {x : Contents} → opened_of r ≡ Ok x → 
 opened_as (field y end) e = (y, end, refl, cc)
 opened_as (refused number place) e = unequal cc
 
--- the number and the place of a refusal are the reading's
-module _ (s : List ℕ) where
-  refused_as : (r : Reading Sheet) {q : Refusal} → opened s ≡ r → opened_of r ≡ Err q → opened s ≡ refused (number_of q.reason) q.place
-  refused_as (field x end) o e = unequal cc
-  refused_as (refused n p) {q} o e =
-      let same : refusal_of n p ≡ q = cc in
-      let one : number_of (reason_of n) ≡ n =
-      ⊎_elim (λ b. numbered n b.0 (omega (arith, b.1))) (λ b. numbered n (omega (arith, b)) (omega (arith, b))) (refusal_number s n p o) in
-      o ∙ (λ i. refused (sym one i) p) ∙ ap (λ z. refused (number_of z.reason) z.place) same
+-- the number and the place of a refusal are the reading's, of any reading that is refused by a number of the documents
+pub opened_refused_by : (r : Reading Sheet) {q : Refusal} → ((n place : ℕ) → r ≡ refused n place → (1 ≤ n) × (n ≤ 15)) → opened_of r ≡ Err q
+    → r ≡ refused (number_of q.reason) q.place
+opened_refused_by (field x end) few e = unequal cc
+opened_refused_by (refused n p) {q} few e =
+    let same : refusal_of n p ≡ q = cc in
+    let one : number_of (reason_of n) ≡ n = numbered n (few n p refl).0 (few n p refl).1 in
+    (λ i. refused (sym one i) p) ∙ ap (λ z. refused (number_of z.reason) z.place) same
 
-  pub opened_refused : {q : Refusal} → opened_of (opened s) ≡ Err q → opened s ≡ refused (number_of q.reason) q.place
-  opened_refused e = refused_as (opened s) refl e
+-- as every reading of bytes is
+pub opened_refused : (s : List ℕ) {q : Refusal} → opened_of (opened s) ≡ Err q → opened s ≡ refused (number_of q.reason) q.place
+opened_refused s =
+    opened_refused_by (opened s) (λ n p o. ⊎_elim (λ b. (b.0, omega (arith, b.1))) (λ b. (omega (arith, b), omega (arith, b))) (refusal_number s n p o))
 
 -- x is kept of the accepted sheet that the bytes are
 abbrev pub Holds : List ℕ → Contents → Type 0
