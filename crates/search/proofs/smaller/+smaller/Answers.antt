@@ -45,6 +45,8 @@ loop-r-preserved t c =
       ],
     )
 
+-- those found in the loop, and those that are left:
+-- in these no rule that is on fails in j, which is such a subset
 pub returns : goal.returns
 returns t c =
     let p = c.requires in
