@@ -1,5 +1,5 @@
 -- A source as the code holds it. Assumes nothing.
-use Rattle.std.specs.Prelude.{ℕ, ◌≤◌, ◌≡◌, List, length, take, Result, Ok, Err}
+use Rattle.std.specs.Prelude.{ℕ, ◌≤◌, ◌<◌, ◌≡◌, List, length, take, Result, Ok, Err}
 use Rattle.semantics.specs.Definitions.Setting.{Setting}
 use Rattle.semantics.specs.Definitions.Check.{most_negations}
 use Rattle.semantics.specs.Definitions.Returned.{Returned, accepted, refusal}
@@ -11,6 +11,7 @@ use Rattle.calendar.specs.declared.hours.Entry.{Entry as Held}
 use Rattle.calendar.specs.Entries.{entries_in}
 use Rattle.guess.specs.Programs.{setting_in, Outlines}
 use Rattle.answers.specs.Refusals.{number_of}
+use Rattle.answers.specs.declared.reason.Reason.{Reason}
 use Rattle.answers.specs.declared.refusal.Refusal.{Refusal}
 use Rattle.sheet.specs.declared.Contents.{Contents}
 use Rattle.guess.specs.declared.outline.Outline.{Outline}
@@ -43,7 +44,14 @@ ReadsBoth sheet calendar (Err q) entries = TurnedAway sheet calendar (number_of 
 abbrev pub ReadsOn : (check : Returned Setting → Returned Setting) (before after : Source) → Type 0
 ReadsOn check before after = (from : Returned Setting) (words : List ℕ) → Reads from before words → Reads (check from) after words
 
+-- what the code does for a check more, of a number that has to be below a bound: a refusal stays as it is; an accepted outline stays where the number is below
+-- its bound, and else the refusal for this reason comes in its place
+pub record CheckedBy {E : Type 0} (gives : Refusal → E → Type 0) (bound : Outline → ℕ) (reason : Reason) (n : ℕ) (before after : Result Outline E) : Type 0 where
+  pub refused : {e : E} → before ≡ Err e → after ≡ Err e
+  pub below : {x : Outline} → before ≡ Ok x → n < bound x → after ≡ Ok x
+  pub beyond : {x : Outline} → before ≡ Ok x → bound x ≤ n → (e : E) × (after ≡ Err e) × gives (record { reason = reason; place = 0 }) e
+
 -- where it is accepted, no more negations than a sheet may have
-abbrev pub Within : Source → Type 0
+abbrev pub Within : {E : Type 0} → Result Outline E → Type 0
 Within (Ok x) = x.negations ≤ most_negations
-Within (Err q) = Unit {0}
+Within (Err e) = Unit {0}

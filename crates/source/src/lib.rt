@@ -4,12 +4,12 @@
 
 pub mod minute;
 
-ghost use Rattle.std.specs.Prelude.{◌≡◌, ◌*◌, ◌≤◌, length};
+ghost use Rattle.std.specs.Prelude.{◌≡◌, ◌*◌, ◌^◌, ◌≤◌, length};
 ghost use Rattle.semantics.specs.Words.{program_room};
 ghost use Rattle.semantics.specs.Definitions.Sheet.{most_atoms};
 ghost use Rattle.semantics.specs.Definitions.Day.{masks_fit, of_day};
-ghost use Rattle.semantics.specs.Definitions.Calls.{for_guess, for_atom};
-ghost use Rattle.source.specs.Sources.{Reads, Within, ReadsOn};
+ghost use Rattle.answers.specs.declared.reason.Reason.TheVariants.{NoGuess, NoAtom};
+ghost use Rattle.source.specs.Sources.{Reads, Within, CheckedBy};
 
 use answers::{Reason, Refusal};
 use guess::outline::Outline;
@@ -56,31 +56,37 @@ pub fn of_day(sheet: &[u8], ins: u16, outs: u16, words: &mut [u16]) -> Source
     })
 }
 
-// One check more, of a guess: refusal 8. A refusal stays as it is.
-pub fn for_guess(source: Source, guess: u32) -> Source
+// One check more, of a guess: refusal 8. A refusal stays as it is, whatever it is.
+pub fn for_guess<E: From<Refusal>>(source: Result<Outline, E>, guess: u32) -> Result<Outline, E>
     requires { Within source }
-    ensures { ReadsOn (λ from. for_guess from guess) source result }
+    ensures { CheckedBy E.from_gives (λ x. 2 ^ x.negations) NoGuess guess source result }
 {
-    let x = source?;
+    let x = match source {
+        Ok(x) => x,
+        Err(refusal) => return Err(refusal),
+    };
     if power(x.negations as u16) as u32 <= guess {
-        return Err(Refusal {
+        return Err(E::from(Refusal {
             reason: Reason::NoGuess,
             place: 0,
-        });
+        }));
     }
     Ok(x)
 }
 
-// One check more, of an atom: refusal 10. A refusal stays as it is.
-pub fn for_atom(source: Source, atom: u32) -> Source
-    ensures { ReadsOn (λ from. for_atom from atom) source result }
+// One check more, of an atom: refusal 10. A refusal stays as it is, whatever it is.
+pub fn for_atom<E: From<Refusal>>(source: Result<Outline, E>, atom: u32) -> Result<Outline, E>
+    ensures { CheckedBy E.from_gives (λ x. x.atoms) NoAtom atom source result }
 {
-    let x = source?;
+    let x = match source {
+        Ok(x) => x,
+        Err(refusal) => return Err(refusal),
+    };
     if x.atoms <= atom as usize {
-        return Err(Refusal {
+        return Err(E::from(Refusal {
             reason: Reason::NoAtom,
             place: 0,
-        });
+        }));
     }
     Ok(x)
 }
